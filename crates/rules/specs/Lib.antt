@@ -1,0 +1,15 @@
+pub mod Refusal
+pub mod Phase
+pub mod Op
+pub mod Program
+pub mod Number
+pub mod Image
+pub mod Form
+pub mod Route
+pub mod Verdict
+pub mod Load
+pub mod Effect
+pub mod Run
+pub mod Cabinet
+pub mod Session
+pub mod Kept
