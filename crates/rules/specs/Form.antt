@@ -9,7 +9,9 @@ use Rattle.std.specs.declared.option.Option.the-variants.{Some, None}
 use Rattle.rules.specs.declared.line.Line.{Line}
 use Rattle.rules.specs.Op.{Op, ldr, logic, logic-cell, ca, wr, fl, fl1, jl, ex, ex-if, lod, sto, ad, ge, abs, mech-begin, mech-end, mech-init, is-begin, is-end, is-init, is-jump, is-exit}
 use Rattle.rules.specs.Number.{Bytes}
-use Rattle.rules.specs.Program.{Program, Part, of-module, of-mechanism, Own, line-at, op-at, total, module-of, module-end, main-module, init-module, clear-module, open-at, part-of, end, sequential}
+use Rattle.rules.specs.Program.{Program, Own, line-at, op-at, total, module-of, module-end, main-module, init-module, clear-module, open-at, unit-of, end, sequential}
+use Rattle.rules.specs.declared.unit.UnitId.{UnitId}
+use Rattle.rules.specs.declared.unit.UnitId.the-variants.{Module, Mechanism}
 use Rattle.rules.specs.Image.{Section, data-section, mechanism-section, module-section, line-section, least-count, most-count}
 
 -- how many records a program has in a section
@@ -81,18 +83,18 @@ abbrev pub Bad-mechanism : Program → ℕ → Type 0
 Bad-mechanism p l = ((l < length (p .lines)) × (Bad-begin p l ⊎ Bad-end p l)) ⊎ Left-over p l
 
 -- line t of a unit, or its end; a mechanism's jump reaches its MECH_END at most
-abbrev pub Lands : Program → ℕ → Part → Type 0
-Lands p t (of-module m) = Own p (of-module m) t ⊎ (t ≡ end p (of-module m))
-Lands p t (of-mechanism k) = Own p (of-mechanism k) t
+abbrev pub Lands : Program → ℕ → UnitId → Type 0
+Lands p t (Module m) = Own p (Module m) t ⊎ (t ≡ end p (Module m))
+Lands p t (Mechanism k) = Own p (Mechanism k) t
 
 -- a jump not to a later line or the end of its unit
 abbrev pub Bad-jump : Program → ℕ → Type 0
-Bad-jump p l = (l < length (p .lines)) × (is-jump (line-at p l) ≡ true) × ((l < line-at p l .operand) × Lands p (line-at p l .operand) (part-of p l) → ⊥)
+Bad-jump p l = (l < length (p .lines)) × (is-jump (line-at p l) ≡ true) × ((l < line-at p l .operand) × Lands p (line-at p l .operand) (unit-of p l) → ⊥)
 
 -- an EX-type line outside a sequential unit
 abbrev pub Bad-exit : Program → ℕ → Type 0
-Bad-exit p l = (l < length (p .lines)) × (is-exit (line-at p l) ≡ true) × (sequential (part-of p l) ≡ false)
+Bad-exit p l = (l < length (p .lines)) × (is-exit (line-at p l) ≡ true) × (sequential (unit-of p l) ≡ false)
 
 -- a MECH_INIT outside INIT and CLEAR
 abbrev pub Bad-init : Program → ℕ → Type 0
-Bad-init p l = (l < length (p .lines)) × (is-init (line-at p l) ≡ true) × (part-of p l ≡ of-module init-module → ⊥) × (part-of p l ≡ of-module clear-module → ⊥)
+Bad-init p l = (l < length (p .lines)) × (is-init (line-at p l) ≡ true) × (unit-of p l ≡ Module init-module → ⊥) × (unit-of p l ≡ Module clear-module → ⊥)

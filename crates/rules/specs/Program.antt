@@ -8,6 +8,8 @@ use lib.ListN.{length, getD, take, drop, replicate}
 use Rattle.std.specs.declared.option.Option.{Option}
 use Rattle.std.specs.declared.option.Option.the-variants.{Some, None}
 use Rattle.rules.specs.declared.line.Line.{Line}
+use Rattle.rules.specs.declared.unit.UnitId.{UnitId}
+use Rattle.rules.specs.declared.unit.UnitId.the-variants.{Module, Mechanism}
 use Rattle.rules.specs.Op.{Op, LDR, LA, LO, LX, WR, FL1, is, is-begin, is-end, is-jump, is-exit, decode}
 
 -- a program: its initial data bytes, the address of each mechanism's activation bit, the number of lines of each module, and the lines
@@ -94,24 +96,19 @@ stretch xs f n = take (n - f) (drop f xs)
 abbrev pub open-at : Program → ℕ → Option ℕ
 open-at p l = open-after None (stretch (p .lines) (module-first p main-module) l)
 
--- a unit of the text: a module, or a mechanism, which is the lines after its MECH_BEGIN up to and with its MECH_END
-pub data Part : Type 0 where
-  of-module : ℕ → Part
-  of-mechanism : ℕ → Part
-
 -- the mechanism that is open, or else MAIN
-abbrev pub main-or : Option ℕ → Part
-main-or None = of-module main-module
-main-or (Some k) = of-mechanism k
+abbrev pub main-or : Option ℕ → UnitId
+main-or None = Module main-module
+main-or (Some k) = Mechanism k
 
 -- the unit that line l belongs to: MAIN leaves its mechanisms out
-abbrev pub part-of : Program → ℕ → Part
-part-of p l = let m = module-of (p .lengths) l in cond (eqb m main-module) (main-or (open-at p l)) (of-module m)
+abbrev pub unit-of : Program → ℕ → UnitId
+unit-of p l = let m = module-of (p .lengths) l in cond (eqb m main-module) (main-or (open-at p l)) (Module m)
 
 -- line l is one of unit u's own
-pub record Own (p : Program) (u : Part) (l : ℕ) : Type 0 where
+pub record Own (p : Program) (u : UnitId) (l : ℕ) : Type 0 where
   pub within : l < length (p .lines)
-  pub part : part-of p l ≡ u
+  pub part : unit-of p l ≡ u
 
 -- the place of the first line that passes a test
 abbrev pub find : (Line → Bool) → List Line → ℕ
@@ -127,28 +124,28 @@ abbrev pub end-line : Program → ℕ → ℕ
 end-line p k = find (λ x. is-end x && eqb (x .operand) k) (p .lines)
 
 -- a unit's first line
-abbrev pub first : Program → Part → ℕ
-first p (of-module m) = module-first p m
-first p (of-mechanism k) = begin-line p k + 1
+abbrev pub first : Program → UnitId → ℕ
+first p (Module m) = module-first p m
+first p (Mechanism k) = begin-line p k + 1
 
 -- a unit's end: the line after its last
-abbrev pub end : Program → Part → ℕ
-end p (of-module m) = module-end p m
-end p (of-mechanism k) = end-line p k + 1
+abbrev pub end : Program → UnitId → ℕ
+end p (Module m) = module-end p m
+end p (Mechanism k) = end-line p k + 1
 
 -- the line that follows l in its unit: after MECH_BEGIN comes the line after its MECH_END
 abbrev pub after : Program → ℕ → ℕ
 after p l = let x = line-at p l in cond (is-begin x) (end-line p (x .operand) + 1) (l + 1)
 
 -- a unit that the program has
-abbrev pub Real : Program → Part → Type 0
-Real p (of-module m) = m < length (p .lengths)
-Real p (of-mechanism k) = k < length (p .activation)
+abbrev pub Real : Program → UnitId → Type 0
+Real p (Module m) = m < length (p .lengths)
+Real p (Mechanism k) = k < length (p .activation)
 
 -- the sequential units are BLOCK_INIT, BLOCK_DONE and the mechanisms
-abbrev pub sequential : Part → Bool
-sequential (of-module m) = eqb m block-init || eqb m block-done
-sequential (of-mechanism k) = true
+abbrev pub sequential : UnitId → Bool
+sequential (Module m) = eqb m block-init || eqb m block-done
+sequential (Mechanism k) = true
 
 -- the lines that clear the text flag: MECH_BEGIN, MECH_END, the jumps, the EX-type lines, WR and FL1
 abbrev pub clears-flag : Line → Bool

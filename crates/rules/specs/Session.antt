@@ -13,7 +13,8 @@ use Rattle.rules.specs.declared.session.Call.the-variants.{Scan, Clear, BlockS
 use Rattle.rules.specs.declared.session.Answer.{Answer}
 use Rattle.rules.specs.declared.session.Answer.the-variants.{Scanned, Done, Refused}
 use Rattle.rules.specs.Number.{bit}
-use Rattle.rules.specs.Program.{Program, of-module, of-mechanism, first, input-module, block-init, block-done, main-module, init-module, clear-module, halt-module}
+use Rattle.rules.specs.Program.{Program, first, input-module, block-init, block-done, main-module, init-module, clear-module, halt-module}
+use Rattle.rules.specs.declared.unit.UnitId.the-variants.{Module, Mechanism}
 use Rattle.rules.specs.Run.{Memory, with-bytes, Passes}
 use Rattle.rules.specs.Cabinet.{Meaning, Sent, Advanced}
 
@@ -25,11 +26,11 @@ pub record Machine : Type 0 where
 -- the first line of each mechanism from number k on
 abbrev pub first-lines : Program → ℕ → List ℕ → List ℕ
 first-lines p k [] = []
-first-lines p k (b ∷ bs) = first p (of-mechanism k) ∷ first-lines p (k + 1) bs
+first-lines p k (b ∷ bs) = first p (Mechanism k) ∷ first-lines p (k + 1) bs
 
 -- the memory that a start sets: the initial bytes, and all points at first lines
 abbrev pub fresh : Program → Memory
-fresh p = record { bytes = p .initial; init-point = first p (of-module block-init); done-point = first p (of-module block-done); points = first-lines p 0 (p .activation) }
+fresh p = record { bytes = p .initial; init-point = first p (Module block-init); done-point = first p (Module block-done); points = first-lines p 0 (p .activation) }
 
 -- the eight output bytes
 abbrev pub outputs : Memory → List ℕ
@@ -45,7 +46,7 @@ zav-fce m = bit (m .bytes) 128
 
 -- the memory with the block modules' points at their first lines
 abbrev pub block-points-back : Program → Memory → Memory
-block-points-back p m = record { bytes = m .bytes; init-point = first p (of-module block-init); done-point = first p (of-module block-done); points = m .points }
+block-points-back p m = record { bytes = m .bytes; init-point = first p (Module block-init); done-point = first p (Module block-done); points = m .points }
 
 -- the phase after a pass of BLOCK_INIT: its end gives phase 2
 abbrev pub after-preparing : Bool → Phase
@@ -64,9 +65,9 @@ pub data Block-part (p : Program) (m : Memory) (n : ℕ) (m′ : Memory) : (befo
   -- in phases 0 and 2 there is none
   idle : {b : Phase} → ((b ≡ Idle) ⊎ (b ≡ Moving)) → n ≡ 0 → m′ ≡ m → Block-part p m n m′ b b
   -- phase 1 runs BLOCK_INIT
-  prepares : {whole : Bool} {a : Phase} → Passes p (of-module block-init) m n whole m′ → a ≡ after-preparing whole → Block-part p m n m′ Preparing a
+  prepares : {whole : Bool} {a : Phase} → Passes p (Module block-init) m n whole m′ → a ≡ after-preparing whole → Block-part p m n m′ Preparing a
   -- phase 3 runs BLOCK_DONE
-  closes : {whole : Bool} {a : Phase} → Passes p (of-module block-done) m n whole m′ → a ≡ after-closing whole → Block-part p m n m′ Closing a
+  closes : {whole : Bool} {a : Phase} → Passes p (Module block-done) m n whole m′ → a ≡ after-closing whole → Block-part p m n m′ Closing a
 
 -- a scan reads the inputs and runs INPUT, the block part and MAIN
 pub record Scans (p : Program) (ins : List ℕ) (before : Machine) (steps : ℕ) (after : Machine) : Type 0 where
@@ -75,29 +76,29 @@ pub record Scans (p : Program) (ins : List ℕ) (before : Machine) (steps : ℕ)
   pub input-steps : ℕ
   pub block-steps : ℕ
   pub main-steps : ℕ
-  pub input-pass : Passes p (of-module input-module) (with-inputs (before .memory) ins) input-steps true after-input
+  pub input-pass : Passes p (Module input-module) (with-inputs (before .memory) ins) input-steps true after-input
   pub block-part : Block-part p after-input block-steps after-block (before .phase) (after .phase)
-  pub main-pass : Passes p (of-module main-module) after-block main-steps true (after .memory)
+  pub main-pass : Passes p (Module main-module) after-block main-steps true (after .memory)
   pub counted : steps ≡ input-steps + block-steps + main-steps
 
 -- clear runs CLEAR, then phase 0 is set and the block points return
 pub record Clears (p : Program) (before after : Machine) : Type 0 where
   pub steps : ℕ
   pub cleared-memory : Memory
-  pub clear-pass : Passes p (of-module clear-module) (before .memory) steps true cleared-memory
+  pub clear-pass : Passes p (Module clear-module) (before .memory) steps true cleared-memory
   pub memory-is : after .memory ≡ block-points-back p cleared-memory
   pub phase-zero : after .phase ≡ Idle
 
 -- halt runs HALT
 pub record Halts (p : Program) (before after : Machine) : Type 0 where
   pub steps : ℕ
-  pub halt-pass : Passes p (of-module halt-module) (before .memory) steps true (after .memory)
+  pub halt-pass : Passes p (Module halt-module) (before .memory) steps true (after .memory)
   pub phase-stays : after .phase ≡ before .phase
 
 -- the start sets the fresh memory and phase 0, runs INIT, and answers the phase
 pub record Starts (p : Program) (answer : Answer) (after : Machine) : Type 0 where
   pub steps : ℕ
-  pub init-pass : Passes p (of-module init-module) (fresh p) steps true (after .memory)
+  pub init-pass : Passes p (Module init-module) (fresh p) steps true (after .memory)
   pub phase-zero : after .phase ≡ Idle
   pub answers : answer ≡ Done (after .phase)
 

@@ -10,12 +10,14 @@ use lib.ListN.{length}
 use Rattle.rules.specs.Refusal.{rule-number}
 use Rattle.rules.specs.declared.refusal.Rule.the-variants.{UnknownLine, BadOperand, BadMechanism, BadJump, BadExit, BadInit, BadDepth, Uninitialised}
 use Rattle.rules.specs.Op.{is-begin, is-end, is-exit}
-use Rattle.rules.specs.Program.{Program, Part, of-module, Own, Real, line-at, end, pushes, pops, init-module, clear-module}
+use Rattle.rules.specs.Program.{Program, Own, Real, line-at, end, pushes, pops, init-module, clear-module}
+use Rattle.rules.specs.declared.unit.UnitId.{UnitId}
+use Rattle.rules.specs.declared.unit.UnitId.the-variants.{Module}
 use Rattle.rules.specs.Form.{Shaped, Unknown, Bad-operand, Bad-mechanism, Bad-jump, Bad-exit, Bad-init}
 use Rattle.rules.specs.Route.{Arrives, depth, Initialises, Scan-takes, Greatest}
 
 -- d cells are stacked where a route arrives at line l, and that is too few, too many, or not none where none is due
-abbrev pub Off-balance : Program → Part → ℕ → ℤ → Type 0
+abbrev pub Off-balance : Program → UnitId → ℕ → ℤ → Type 0
 Off-balance p u l d =
     (Own p u l × (pops p l ≡ true) × (d ≡ pos 0))
     ⊎ ((Own p u l × (pushes p l ≡ true) × (d ≡ pos 8))
@@ -24,12 +26,12 @@ Off-balance p u l d =
 
 -- line l of a unit, or its end, where two routes arrive with different depths, or one with a depth that does not serve
 pub data Bad-depth (p : Program) (l : ℕ) : Type 0 where
-  two-depths : {u : Part} {a b : List ℕ} → Real p u → Arrives p u a l → Arrives p u b l → (depth p a ≡ depth p b → ⊥) → Bad-depth p l
-  off : {u : Part} {a : List ℕ} → Real p u → Arrives p u a l → Off-balance p u l (depth p a) → Bad-depth p l
+  two-depths : {u : UnitId} {a b : List ℕ} → Real p u → Arrives p u a l → Arrives p u b l → (depth p a ≡ depth p b → ⊥) → Bad-depth p l
+  off : {u : UnitId} {a : List ℕ} → Real p u → Arrives p u a l → Off-balance p u l (depth p a) → Bad-depth p l
 
 -- a route of module m that leaves a mechanism uninitialised
 pub data Misses-init (p : Program) (m : ℕ) : Type 0 where
-  misses : {a : List ℕ} {k : ℕ} → Arrives p (of-module m) a (end p (of-module m)) → k < length (p .activation) → (Initialises p k a → ⊥) → Misses-init p m
+  misses : {a : List ℕ} {k : ℕ} → Arrives p (Module m) a (end p (Module m)) → k < length (p .activation) → (Initialises p k a → ⊥) → Misses-init p m
 
 -- the rules of the text by their numbers, and the places where they are broken
 pub data Breaks (p : Program) (rule place : ℕ) : Type 0 where
@@ -60,7 +62,7 @@ pub record Accepted (p : Program) : Type 0 where
 
 -- the depth of some route of a unit, at a line where it arrives
 abbrev pub Depth-of : Program → ℤ → Type 0
-Depth-of p d = (u : Part) × (l : ℕ) × (a : List ℕ) × Real p u × Arrives p u a l × (d ≡ depth p a)
+Depth-of p d = (u : UnitId) × (l : ℕ) × (a : List ℕ) × Real p u × Arrives p u a l × (d ≡ depth p a)
 
 -- the certificate: the number of lines, the greatest depth in any unit, and the greatest number of steps of a scan's routes
 pub record Certified (p : Program) (lines stack scan : ℕ) : Type 0 where

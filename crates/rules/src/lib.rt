@@ -2,3 +2,4 @@
 pub mod line;
 pub mod refusal;
 pub mod session;
+pub mod unit;

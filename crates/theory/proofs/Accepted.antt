@@ -13,7 +13,9 @@ use Rattle.std.proofs.shelf.Tests.{true≢false, false≢true, cases-lt}
 use Rattle.std.proofs.shelf.Lists.{getD-past}
 use Rattle.rules.specs.declared.line.Line.{Line}
 use Rattle.rules.specs.Op.{is-begin, is-end, is-init, is-jump, is-exit}
-use Rattle.rules.specs.Program.{no-line, line-at, op-at, init-module, clear-module, open-at, Part, of-module, of-mechanism, part-of, first, end, sequential, flag-at, pushes, pops}
+use Rattle.rules.specs.Program.{no-line, line-at, op-at, init-module, clear-module, open-at, unit-of, first, end, sequential, flag-at, pushes, pops}
+use Rattle.rules.specs.declared.unit.UnitId.{UnitId}
+use Rattle.rules.specs.declared.unit.UnitId.the-variants.{Module, Mechanism}
 use Rattle.rules.specs.Image.{Section, data-section, mechanism-section, module-section, line-section, least-count, most-count}
 use Rattle.rules.specs.Form.{records, Shaped, Bad-operand, Bad-begin, Bad-end, Bad-mechanism}
 use Rattle.rules.specs.Route.{Arrives, at-entry, passed, change, depth, Initialises}
@@ -97,11 +99,11 @@ no-unpaired l (inr (e, inr (suc k, h, n))) = absurd (omega arith)
 no-misled : (l : ℕ) → l < 11 → is-jump (line-at gate l) ≡ true → ⊥
 no-misled = eleven (λ l. is-jump (line-at gate l) ≡ true → ⊥) false≢true false≢true false≢true false≢true false≢true false≢true false≢true false≢true false≢true false≢true false≢true
 
-no-stray-exit : (l : ℕ) → l < 11 → is-exit (line-at gate l) ≡ true → sequential (part-of gate l) ≡ false → ⊥
-no-stray-exit = eleven (λ l. is-exit (line-at gate l) ≡ true → sequential (part-of gate l) ≡ false → ⊥) (λ e s. false≢true e) (λ e s. false≢true e) (λ e s. false≢true e) (λ e s. true≢false s) (λ e s. true≢false s) (λ e s. true≢false s) (λ e s. true≢false s) (λ e s. true≢false s) (λ e s. true≢false s) (λ e s. false≢true e) (λ e s. false≢true e)
+no-stray-exit : (l : ℕ) → l < 11 → is-exit (line-at gate l) ≡ true → sequential (unit-of gate l) ≡ false → ⊥
+no-stray-exit = eleven (λ l. is-exit (line-at gate l) ≡ true → sequential (unit-of gate l) ≡ false → ⊥) (λ e s. false≢true e) (λ e s. false≢true e) (λ e s. false≢true e) (λ e s. true≢false s) (λ e s. true≢false s) (λ e s. true≢false s) (λ e s. true≢false s) (λ e s. true≢false s) (λ e s. true≢false s) (λ e s. false≢true e) (λ e s. false≢true e)
 
-no-stray-init : (l : ℕ) → l < 11 → is-init (line-at gate l) ≡ true → (part-of gate l ≡ of-module init-module → ⊥) → (part-of gate l ≡ of-module clear-module → ⊥) → ⊥
-no-stray-init = eleven (λ l. is-init (line-at gate l) ≡ true → (part-of gate l ≡ of-module init-module → ⊥) → (part-of gate l ≡ of-module clear-module → ⊥) → ⊥) (λ e a b. false≢true e) (λ e a b. false≢true e) (λ e a b. false≢true e) (λ e a b. false≢true e) (λ e a b. false≢true e) (λ e a b. false≢true e) (λ e a b. false≢true e) (λ e a b. false≢true e) (λ e a b. false≢true e) (λ e a b. a refl) (λ e a b. b refl)
+no-stray-init : (l : ℕ) → l < 11 → is-init (line-at gate l) ≡ true → (unit-of gate l ≡ Module init-module → ⊥) → (unit-of gate l ≡ Module clear-module → ⊥) → ⊥
+no-stray-init = eleven (λ l. is-init (line-at gate l) ≡ true → (unit-of gate l ≡ Module init-module → ⊥) → (unit-of gate l ≡ Module clear-module → ⊥) → ⊥) (λ e a b. false≢true e) (λ e a b. false≢true e) (λ e a b. false≢true e) (λ e a b. false≢true e) (λ e a b. false≢true e) (λ e a b. false≢true e) (λ e a b. false≢true e) (λ e a b. false≢true e) (λ e a b. false≢true e) (λ e a b. a refl) (λ e a b. b refl)
 
 -- nothing is ever stacked
 no-change : (l : ℕ) → (l < 11) ⊎ (11 ≤ l) → change gate l ≡ pos 0
@@ -118,7 +120,7 @@ no-pops = eleven (λ l. pops gate l ≡ false) refl refl refl refl refl refl ref
 no-pushes : (l : ℕ) → l < 11 → pushes gate l ≡ false
 no-pushes = eleven (λ l. pushes gate l ≡ false) refl refl refl refl refl refl refl refl refl refl refl
 
-no-off : (u : Part) (l : ℕ) (d : ℤ) → d ≡ pos 0 → Off-balance gate u l d → ⊥
+no-off : (u : UnitId) (l : ℕ) (d : ℤ) → d ≡ pos 0 → Off-balance gate u l d → ⊥
 no-off u l d z (inl (o, e, q)) = false≢true (sym (no-pops l (o .within)) ∙ e)
 no-off u l d z (inr (inl (o, e, q))) = false≢true (sym (no-pushes l (o .within)) ∙ e)
 no-off u l d z (inr (inr (inl (o, e, n)))) = n z
@@ -128,20 +130,20 @@ no-unbalanced : (l : ℕ) → Bad-depth gate l → ⊥
 no-unbalanced l (two-depths {a = a} {b = b} h x y n) = n (no-depth a ∙ sym (no-depth b))
 no-unbalanced l (off {u = u} {a = a} h x o) = no-off u l (depth gate a) (no-depth a) o
 
-pub apart-module : (a b : ℕ) → (a ≡ b → ⊥) → of-module a ≡ of-module b → ⊥
+pub apart-module : (a b : ℕ) → (a ≡ b → ⊥) → Module a ≡ Module b → ⊥
 apart-module a b n e = n (cc e)
 
-pub apart-mechanism : (k b : ℕ) → of-mechanism k ≡ of-module b → ⊥
+pub apart-mechanism : (k b : ℕ) → Mechanism k ≡ Module b → ⊥
 apart-mechanism k b e = let z : _≡_ {A = ℕ} 0 1 = cc e in omega arith
 
-init-own : (l : ℕ) → l < 11 → part-of gate l ≡ of-module init-module → l ≡ 9
-init-own = eleven (λ l. part-of gate l ≡ of-module init-module → l ≡ 9) (λ e. absurd (apart-module 3 4 (λ z. omega arith) e)) (λ e. absurd (apart-module 3 4 (λ z. omega arith) e)) (λ e. absurd (apart-module 3 4 (λ z. omega arith) e)) (λ e. absurd (apart-mechanism 0 4 e)) (λ e. absurd (apart-mechanism 0 4 e)) (λ e. absurd (apart-mechanism 0 4 e)) (λ e. absurd (apart-mechanism 0 4 e)) (λ e. absurd (apart-mechanism 0 4 e)) (λ e. absurd (apart-mechanism 0 4 e)) (λ e. refl) (λ e. absurd (apart-module 5 4 (λ z. omega arith) e))
+init-own : (l : ℕ) → l < 11 → unit-of gate l ≡ Module init-module → l ≡ 9
+init-own = eleven (λ l. unit-of gate l ≡ Module init-module → l ≡ 9) (λ e. absurd (apart-module 3 4 (λ z. omega arith) e)) (λ e. absurd (apart-module 3 4 (λ z. omega arith) e)) (λ e. absurd (apart-module 3 4 (λ z. omega arith) e)) (λ e. absurd (apart-mechanism 0 4 e)) (λ e. absurd (apart-mechanism 0 4 e)) (λ e. absurd (apart-mechanism 0 4 e)) (λ e. absurd (apart-mechanism 0 4 e)) (λ e. absurd (apart-mechanism 0 4 e)) (λ e. absurd (apart-mechanism 0 4 e)) (λ e. refl) (λ e. absurd (apart-module 5 4 (λ z. omega arith) e))
 
-clear-own : (l : ℕ) → l < 11 → part-of gate l ≡ of-module clear-module → l ≡ 10
-clear-own = eleven (λ l. part-of gate l ≡ of-module clear-module → l ≡ 10) (λ e. absurd (apart-module 3 5 (λ z. omega arith) e)) (λ e. absurd (apart-module 3 5 (λ z. omega arith) e)) (λ e. absurd (apart-module 3 5 (λ z. omega arith) e)) (λ e. absurd (apart-mechanism 0 5 e)) (λ e. absurd (apart-mechanism 0 5 e)) (λ e. absurd (apart-mechanism 0 5 e)) (λ e. absurd (apart-mechanism 0 5 e)) (λ e. absurd (apart-mechanism 0 5 e)) (λ e. absurd (apart-mechanism 0 5 e)) (λ e. absurd (apart-module 4 5 (λ z. omega arith) e)) (λ e. refl)
+clear-own : (l : ℕ) → l < 11 → unit-of gate l ≡ Module clear-module → l ≡ 10
+clear-own = eleven (λ l. unit-of gate l ≡ Module clear-module → l ≡ 10) (λ e. absurd (apart-module 3 5 (λ z. omega arith) e)) (λ e. absurd (apart-module 3 5 (λ z. omega arith) e)) (λ e. absurd (apart-module 3 5 (λ z. omega arith) e)) (λ e. absurd (apart-mechanism 0 5 e)) (λ e. absurd (apart-mechanism 0 5 e)) (λ e. absurd (apart-mechanism 0 5 e)) (λ e. absurd (apart-mechanism 0 5 e)) (λ e. absurd (apart-mechanism 0 5 e)) (λ e. absurd (apart-mechanism 0 5 e)) (λ e. absurd (apart-module 4 5 (λ z. omega arith) e)) (λ e. refl)
 
 -- a module of the one line x, which initialises mechanism 0
-one-line : (m x : ℕ) → ((l : ℕ) → l < 11 → part-of gate l ≡ of-module m → l ≡ x) → first gate (of-module m) ≡ x → is-exit (line-at gate x) ≡ false → is-init (line-at gate x) ≡ true → line-at gate x .operand ≡ 0 → {a : List ℕ} {l : ℕ} → Arrives gate (of-module m) a l → (l ≡ x → ⊥) → Initialises gate 0 a
+one-line : (m x : ℕ) → ((l : ℕ) → l < 11 → unit-of gate l ≡ Module m → l ≡ x) → first gate (Module m) ≡ x → is-exit (line-at gate x) ≡ false → is-init (line-at gate x) ≡ true → line-at gate x .operand ≡ 0 → {a : List ℕ} {l : ℕ} → Arrives gate (Module m) a l → (l ≡ x → ⊥) → Initialises gate 0 a
 one-line m x own f e i q (at-entry (inl r)) n = absurd (n (r ∙ f))
 one-line m x own f e i q (at-entry (inr (y, o, z, r))) n = absurd (false≢true (sym e ∙ subst (λ (w : ℕ). is-exit (line-at gate w) ≡ true) (own y (o .within) (o .part)) z))
 one-line m x own f e i q (passed {l = y} a o w) n =
@@ -150,8 +152,8 @@ one-line m x own f e i q (passed {l = y} a o w) n =
 
 no-uninitialised : (m : ℕ) → (m ≡ init-module) ⊎ (m ≡ clear-module) → Misses-init gate m → ⊥
 no-uninitialised m h (misses {a = a} {k = suc k} r b n) = absurd (omega arith)
-no-uninitialised m (inl e) (misses {a = a} {k = zero} r b n) = n (one-line init-module 9 init-own refl refl refl refl (subst (λ (x : ℕ). Arrives gate (of-module x) a (end gate (of-module x))) e r) (λ z. omega arith))
-no-uninitialised m (inr e) (misses {a = a} {k = zero} r b n) = n (one-line clear-module 10 clear-own refl refl refl refl (subst (λ (x : ℕ). Arrives gate (of-module x) a (end gate (of-module x))) e r) (λ z. omega arith))
+no-uninitialised m (inl e) (misses {a = a} {k = zero} r b n) = n (one-line init-module 9 init-own refl refl refl refl (subst (λ (x : ℕ). Arrives gate (Module x) a (end gate (Module x))) e r) (λ z. omega arith))
+no-uninitialised m (inr e) (misses {a = a} {k = zero} r b n) = n (one-line clear-module 10 clear-own refl refl refl refl (subst (λ (x : ℕ). Arrives gate (Module x) a (end gate (Module x))) e r) (λ z. omega arith))
 
 unbroken : (r l : ℕ) → Breaks gate r l → ⊥
 unbroken r l (by-unknown-line e h) = no-unknown l (h .0) (h .1)

@@ -10,7 +10,9 @@ use lib.ListN.{length}
 use Rattle.std.proofs.shelf.Tests.{eqb-true, both-ways, false≢true}
 use Rattle.rules.specs.declared.line.Line.{Line}
 use Rattle.rules.specs.Op.{is-begin, is-jump, is-exit, and, or, xor, Op, ldr, logic, logic-cell, ca, wr, fl, fl1, jl, ex, ex-if, lod, sto, ad, ge, abs, mech-begin, mech-end, mech-init}
-use Rattle.rules.specs.Program.{Program, line-at, main-module, module-first, module-end, Part, of-module, of-mechanism, Own, begin-line, end-line, first, end, after, Real}
+use Rattle.rules.specs.Program.{Program, line-at, main-module, module-first, module-end, Own, begin-line, end-line, first, end, after, Real}
+use Rattle.rules.specs.declared.unit.UnitId.{UnitId}
+use Rattle.rules.specs.declared.unit.UnitId.the-variants.{Module, Mechanism}
 use Rattle.rules.specs.Form.{Shaped, Reaches}
 use Rattle.rules.specs.Route.{Way, Entry, Arrives, at-entry, passed, Route, to-end, stopped, Steps, none, line, entered, Takes}
 use Rattle.rules.specs.Run.{Place, at, over}
@@ -67,13 +69,13 @@ module _ (p : Program) (sec : Shaped p) (ord : Orderly p) where
       let y = s .to in
       (s, begun-once p sec ord (begin-line p k) l (omega arith) h (s .begin-there) b (s .begin-names ∙ sym e))
 
-  own-low : (u : Part) (l : ℕ) → Real p u → Own p u l → first p u ≤ l
-  own-low (of-module n) l h o = inside p l n (sec .all-lines) (o .within) (own-module p n l o .0) .0
-  own-low (of-mechanism k) l h o = let q = own-span p sec ord k l (span p sec ord k h) o .0 in omega arith
+  own-low : (u : UnitId) (l : ℕ) → Real p u → Own p u l → first p u ≤ l
+  own-low (Module n) l h o = inside p l n (sec .all-lines) (o .within) (own-module p n l o .0) .0
+  own-low (Mechanism k) l h o = let q = own-span p sec ord k l (span p sec ord k h) o .0 in omega arith
 
-  own-high : (u : Part) (l : ℕ) → Real p u → Own p u l → l < end p u
-  own-high (of-module n) l h o = inside p l n (sec .all-lines) (o .within) (own-module p n l o .0) .1
-  own-high (of-mechanism k) l h o = let q = own-span p sec ord k l (span p sec ord k h) o .1 in omega arith
+  own-high : (u : UnitId) (l : ℕ) → Real p u → Own p u l → l < end p u
+  own-high (Module n) l h o = inside p l n (sec .all-lines) (o .within) (own-module p n l o .0) .1
+  own-high (Mechanism k) l h o = let q = own-span p sec ord k l (span p sec ord k h) o .1 in omega arith
 
   after-rises : (l : ℕ) → l < length (p .lines) → (b : Bool) → is-begin (line-at p l) ≡ b → l < after p l
   after-rises l h true e =
@@ -87,24 +89,24 @@ module _ (p : Program) (sec : Shaped p) (ord : Orderly p) where
   way-rises l m h (inl (x, e)) = rw e (after-rises l h (is-begin (line-at p l)) refl)
   way-rises l m h (inr (j, e)) = rw e (ord .lands l h j .0)
 
-  entry-low : (u : Part) (l : ℕ) → Real p u → Entry p u l → first p u ≤ l
+  entry-low : (u : UnitId) (l : ℕ) → Real p u → Entry p u l → first p u ≤ l
   entry-low u l h (inl e) = omega arith
   entry-low u l h (inr (x, o, z, e)) =
       let a = own-low u x h o in
       let b = after-rises x (o .within) (is-begin (line-at p x)) refl in
       omega arith
 
-  path-length : (u : Part) {path : List ℕ} {l : ℕ} → Real p u → Arrives p u path l → first p u + length path ≤ l
+  path-length : (u : UnitId) {path : List ℕ} {l : ℕ} → Real p u → Arrives p u path l → first p u + length path ≤ l
   path-length u h (at-entry {m = m} e) = let q = entry-low u m h e in omega arith
   path-length u h (passed {l = l} {m = m} a o w) =
       let q = path-length u h a in
       let r = way-rises l m (o .within) w in
       omega arith
 
-  inner-length : (k : ℕ) (inner : List ℕ) → Span p k → Real p (of-mechanism k) → Route p (of-mechanism k) inner → begin-line p k + length inner ≤ end-line p k
-  inner-length k inner s h (to-end a) = let q = path-length (of-mechanism k) h a in omega arith
+  inner-length : (k : ℕ) (inner : List ℕ) → Span p k → Real p (Mechanism k) → Route p (Mechanism k) inner → begin-line p k + length inner ≤ end-line p k
+  inner-length k inner s h (to-end a) = let q = path-length (Mechanism k) h a in omega arith
   inner-length k inner s h (stopped {l = l} a o e) =
-      let q = path-length (of-mechanism k) h a in
+      let q = path-length (Mechanism k) h a in
       let r = own-span p sec ord k l s o .1 in
       omega arith
 
@@ -122,8 +124,8 @@ module _ (p : Program) (sec : Shaped p) (ord : Orderly p) where
   begin-way l m b (inl (x, e)) = e
   begin-way l m b (inr (j, e)) = absurd (both-ways (is-jump (line-at p l)) (begins-jumps (line-at p l) b) j)
 
-  module-steps : (t : ℕ) {path : List ℕ} {l n : ℕ} → Real p (of-module t) → Arrives p (of-module t) path l → Steps p path n → module-first p t + n ≤ l
-  module-steps t h (at-entry {m = m} e) none = let q = entry-low (of-module t) m h e in omega arith
+  module-steps : (t : ℕ) {path : List ℕ} {l n : ℕ} → Real p (Module t) → Arrives p (Module t) path l → Steps p path n → module-first p t + n ≤ l
+  module-steps t h (at-entry {m = m} e) none = let q = entry-low (Module t) m h e in omega arith
   module-steps t h (passed {l = l} {m = m} a o w) (line s) =
       let q = module-steps t h a s in
       let r = way-rises l m (o .within) w in
@@ -137,26 +139,26 @@ module _ (p : Program) (sec : Shaped p) (ord : Orderly p) where
       let y = g .1 in
       omega arith
 
-  pub takes-bound : (t n : ℕ) → Real p (of-module t) → Takes p (of-module t) n → module-first p t + n ≤ module-end p t
+  pub takes-bound : (t n : ℕ) → Real p (Module t) → Takes p (Module t) n → module-first p t + n ≤ module-end p t
   takes-bound t n h (path, to-end a, s) = module-steps t h a s
   takes-bound t n h (path, stopped {l = l} a o e, line s) =
       let q = module-steps t h a s in
-      let r = own-high (of-module t) l h o in
+      let r = own-high (Module t) l h o in
       omega arith
   takes-bound t n h (path, stopped {l = l} a o e, entered b r s) = absurd (both-ways (is-exit (line-at p l)) (begins-exits (line-at p l) b) e)
 
   -- a run of a module has so far taken no more steps than it has passed lines
-  pub bound : (t k : ℕ) (q : Place) (cells : List Bool) → Real p (of-module t) → Routed p t k q cells → k ≤ length (p .lines)
+  pub bound : (t k : ℕ) (q : Place) (cells : List Bool) → Real p (Module t) → Routed p t k q cells → k ≤ length (p .lines)
   bound t k (over b) cells h ro = let x = takes-bound t k h (ro .0) in let w = end-within p t (sec .all-lines) in omega arith
-  bound t k (at (of-module n) l) cells h (path, tr, w) =
+  bound t k (at (Module n) l) cells h (path, tr, w) =
       let x = module-steps n (w .real) (w .arrives) (tr .1) in
       let y = w .own .within in
       omega arith
-  bound t k (at (of-mechanism j) l) cells h (path, tr, w) =
+  bound t k (at (Mechanism j) l) cells h (path, tr, w) =
       let o = tr .2 in
       let x = module-steps main-module (named p sec main-module (lit< tt)) (o .arrives) (o .steps) in
       let g = begin-is (o .begin-at) j (o .own .within) (o .begin-there) (o .names) .1 in
-      let y = path-length (of-mechanism j) (w .real) (w .arrives) in
+      let y = path-length (Mechanism j) (w .real) (w .arrives) in
       let z = w .own .within in
       let e = tr .3 in
       omega arith

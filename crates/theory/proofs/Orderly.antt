@@ -11,7 +11,9 @@ use Rattle.std.specs.declared.option.Option.the-variants.{Some, None}
 use Rattle.std.proofs.shelf.Tests.{cases-eq, cases-lt}
 use Rattle.rules.specs.declared.line.Line.{Line}
 use Rattle.rules.specs.Op.{is-begin, is-end, is-jump, is-exit, Op, ldr, logic, logic-cell, ca, wr, fl, fl1, jl, ex, ex-if, lod, sto, ad, ge, abs, mech-begin, mech-end, mech-init}
-use Rattle.rules.specs.Program.{Program, line-at, op-at, main-module, module-end, module-of, open-at, Part, of-module, of-mechanism, part-of, Own, end, sequential}
+use Rattle.rules.specs.Program.{Program, line-at, op-at, main-module, module-end, module-of, open-at, unit-of, Own, end, sequential}
+use Rattle.rules.specs.declared.unit.UnitId.{UnitId}
+use Rattle.rules.specs.declared.unit.UnitId.the-variants.{Module, Mechanism}
 use Rattle.rules.specs.Form.{Reaches, Begun, Bad-mechanism, Lands}
 use Rattle.rules.specs.Verdict.{by-unknown-line, by-bad-operand, by-bad-mechanism, by-bad-jump, by-bad-exit, Formed}
 
@@ -29,11 +31,11 @@ same-option None (Some y) = inr (λ h. clash ⊥ y (sym h))
 same-option (Some x) None = inr (λ h. clash ⊥ x h)
 same-option (Some x) (Some y) = elim (cases-eq x y) [ inl e ↦ inl (ap Some e) | inr n ↦ inr (λ h. n (cc h)) ]
 
-pub same-part : (a b : Part) → (a ≡ b) ⊎ (a ≡ b → ⊥)
-same-part (of-module x) (of-module y) = elim (cases-eq x y) [ inl e ↦ inl (ap of-module e) | inr n ↦ inr (λ h. n (cc h)) ]
-same-part (of-module x) (of-mechanism y) = inr (λ h. let z : _≡_ {A = ℕ} 0 1 = cc h in omega arith)
-same-part (of-mechanism x) (of-module y) = inr (λ h. let z : _≡_ {A = ℕ} 0 1 = cc h in omega arith)
-same-part (of-mechanism x) (of-mechanism y) = elim (cases-eq x y) [ inl e ↦ inl (ap of-mechanism e) | inr n ↦ inr (λ h. n (cc h)) ]
+pub same-part : (a b : UnitId) → (a ≡ b) ⊎ (a ≡ b → ⊥)
+same-part (Module x) (Module y) = elim (cases-eq x y) [ inl e ↦ inl (ap Module e) | inr n ↦ inr (λ h. n (cc h)) ]
+same-part (Module x) (Mechanism y) = inr (λ h. let z : _≡_ {A = ℕ} 0 1 = cc h in omega arith)
+same-part (Mechanism x) (Module y) = inr (λ h. let z : _≡_ {A = ℕ} 0 1 = cc h in omega arith)
+same-part (Mechanism x) (Mechanism y) = elim (cases-eq x y) [ inl e ↦ inl (ap Mechanism e) | inr n ↦ inr (λ h. n (cc h)) ]
 
 below : (a b : ℕ) → (a < b) ⊎ (a < b → ⊥)
 below a b = elim (cases-lt a b) [ inl h ↦ inl h | inr h ↦ inr (λ g. omega arith) ]
@@ -55,12 +57,12 @@ one-of {P} {Q} (inr n) (inr k) = inr go
     go (inl x) = n x
     go (inr y) = k y
 
-pub owned : (p : Program) (u : Part) (l : ℕ) → Own p u l ⊎ (Own p u l → ⊥)
-owned p u l = elim (both-of (below l (length (p .lines))) (same-part (part-of p l) u)) [ inl h ↦ inl (record { within = h .0; part = h .1 }) | inr n ↦ inr (λ o. n (o .within, o .part)) ]
+pub owned : (p : Program) (u : UnitId) (l : ℕ) → Own p u l ⊎ (Own p u l → ⊥)
+owned p u l = elim (both-of (below l (length (p .lines))) (same-part (unit-of p l) u)) [ inl h ↦ inl (record { within = h .0; part = h .1 }) | inr n ↦ inr (λ o. n (o .within, o .part)) ]
 
-lands-or-not : (p : Program) (t : ℕ) (u : Part) → Lands p t u ⊎ (Lands p t u → ⊥)
-lands-or-not p t (of-module m) = one-of (owned p (of-module m) t) (cases-eq t (end p (of-module m)))
-lands-or-not p t (of-mechanism k) = owned p (of-mechanism k) t
+lands-or-not : (p : Program) (t : ℕ) (u : UnitId) → Lands p t u ⊎ (Lands p t u → ⊥)
+lands-or-not p t (Module m) = one-of (owned p (Module m) t) (cases-eq t (end p (Module m)))
+lands-or-not p t (Mechanism k) = owned p (Mechanism k) t
 
 reached : (p : Program) (x : Line) (o : Option Op) → Reaches p x o ⊎ (Reaches p x o → ⊥)
 reached p x None = inl tt
@@ -94,8 +96,8 @@ pub record Orderly (p : Program) : Type 0 where
   pub end-open : (l : ℕ) → l < length (p .lines) → is-end (line-at p l) ≡ true → open-at p l ≡ Some (line-at p l .operand)
   pub shut : open-at p (module-end p main-module) ≡ None
   pub all-begun : (k : ℕ) → k < length (p .activation) → ((j : ℕ) → Begun p k j → ⊥) → ⊥
-  pub lands : (l : ℕ) → l < length (p .lines) → is-jump (line-at p l) ≡ true → (l < line-at p l .operand) × Lands p (line-at p l .operand) (part-of p l)
-  pub exit-sequential : (l : ℕ) → l < length (p .lines) → is-exit (line-at p l) ≡ true → sequential (part-of p l) ≡ true
+  pub lands : (l : ℕ) → l < length (p .lines) → is-jump (line-at p l) ≡ true → (l < line-at p l .operand) × Lands p (line-at p l .operand) (unit-of p l)
+  pub exit-sequential : (l : ℕ) → l < length (p .lines) → is-exit (line-at p l) ≡ true → sequential (unit-of p l) ≡ true
 
 module _ (p : Program) (formed : Formed p) where
   paired : (l : ℕ) → Bad-mechanism p l → ⊥
@@ -108,7 +110,7 @@ module _ (p : Program) (formed : Formed p) where
   main-begin : (l : ℕ) → l < length (p .lines) → is-begin (line-at p l) ≡ true → module-of (p .lengths) l ≡ main-module
   main-begin l h b = sure (cases-eq (module-of (p .lengths) l) main-module) (λ n. paired l (inl (h, inl (b, inl n))))
 
-  sequential-exit : (l : ℕ) → l < length (p .lines) → is-exit (line-at p l) ≡ true → (b : Bool) → sequential (part-of p l) ≡ b → b ≡ true
+  sequential-exit : (l : ℕ) → l < length (p .lines) → is-exit (line-at p l) ≡ true → (b : Bool) → sequential (unit-of p l) ≡ b → b ≡ true
   sequential-exit l h e true q = refl
   sequential-exit l h e false q = absurd (formed .unbroken 10 l (lit≤ tt) (by-bad-exit refl (h, e, q)))
 
@@ -123,6 +125,6 @@ module _ (p : Program) (formed : Formed p) where
     end-open = λ l h e. sure (same-option (open-at p l) (Some (line-at p l .operand))) (λ n. paired l (inl (h, inr (e, inr n))));
     shut = sure (same-option (open-at p (module-end p main-module)) None) (λ n. paired (module-end p main-module) (inr (refl, inl n)));
     all-begun = λ k h n. paired (module-end p main-module) (inr (refl, inr (k, h, n)));
-    lands = λ l h j. sure (both-of (below l (line-at p l .operand)) (lands-or-not p (line-at p l .operand) (part-of p l))) (λ n. formed .unbroken 9 l (lit≤ tt) (by-bad-jump refl (h, j, n)));
-    exit-sequential = λ l h e. sequential-exit l h e (sequential (part-of p l)) refl;
+    lands = λ l h j. sure (both-of (below l (line-at p l .operand)) (lands-or-not p (line-at p l .operand) (unit-of p l))) (λ n. formed .unbroken 9 l (lit≤ tt) (by-bad-jump refl (h, j, n)));
+    exit-sequential = λ l h e. sequential-exit l h e (sequential (unit-of p l)) refl;
   }

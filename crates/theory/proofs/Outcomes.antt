@@ -8,7 +8,8 @@ use native.Mathlib.Omega.{arith}
 use Rattle.rules.specs.declared.session.Phase.{Phase}
 use Rattle.rules.specs.declared.session.Answer.{Answer}
 use Rattle.rules.specs.declared.session.Answer.the-variants.{Scanned, Done}
-use Rattle.rules.specs.Program.{Program, input-module, block-init, block-done, main-module, init-module, clear-module, halt-module, of-module}
+use Rattle.rules.specs.Program.{Program, input-module, block-init, block-done, main-module, init-module, clear-module, halt-module}
+use Rattle.rules.specs.declared.unit.UnitId.the-variants.{Module}
 use Rattle.rules.specs.Run.{Memory, Passes}
 use Rattle.rules.specs.Session.{Machine, fresh, with-inputs, block-points-back, Block-part, idle, prepares, closes, Scans, after-preparing, after-closing, Clears, Halts, Starts, scans, clears, starts-block, no-block, reports, no-report, halts}
 use Rattle.theory.specs.Laws.{Outcomes-alike}
@@ -26,20 +27,20 @@ block-alike (idle (inr c) z e) (closes q f) = absurd (let z : _≡_ {A = ℕ} 0 
 block-alike (prepares q f) (idle (inl c) z e) = absurd (let z : _≡_ {A = ℕ} 0 1 = cc in omega arith)
 block-alike (prepares q f) (idle (inr c) z e) = absurd (let z : _≡_ {A = ℕ} 0 1 = cc in omega arith)
 block-alike {p} {m} {n₁} {n₂} {m₁} {m₂} (prepares {whole = w} q f) (prepares {whole = w₂} q₂ f₂) =
-    let s = passes-alike p (of-module block-init) m n₁ n₂ w w₂ m₁ m₂ q q₂ in
+    let s = passes-alike p (Module block-init) m n₁ n₂ w w₂ m₁ m₂ q q₂ in
     (s .0, s .2, f ∙ ap after-preparing (s .1) ∙ sym f₂)
 block-alike (closes q f) (idle (inl c) z e) = absurd (let z : _≡_ {A = ℕ} 0 1 = cc in omega arith)
 block-alike (closes q f) (idle (inr c) z e) = absurd (let z : _≡_ {A = ℕ} 0 1 = cc in omega arith)
 block-alike {p} {m} {n₁} {n₂} {m₁} {m₂} (closes {whole = w} q f) (closes {whole = w₂} q₂ f₂) =
-    let s = passes-alike p (of-module block-done) m n₁ n₂ w w₂ m₁ m₂ q q₂ in
+    let s = passes-alike p (Module block-done) m n₁ n₂ w w₂ m₁ m₂ q q₂ in
     (s .0, s .2, f ∙ ap after-closing (s .1) ∙ sym f₂)
 
 module _ (p : Program) where
   scans-alike : (ins : List ℕ) (before : Machine) (k l : ℕ) (m n : Machine) → Scans p ins before k m → Scans p ins before l n → (k ≡ l) × (m ≡ n)
   scans-alike ins before k l m n x y =
-      let i = passes-alike p (of-module input-module) (with-inputs (before .memory) ins) (x .input-steps) (y .input-steps) true true (x .after-input) (y .after-input) (x .input-pass) (y .input-pass) in
+      let i = passes-alike p (Module input-module) (with-inputs (before .memory) ins) (x .input-steps) (y .input-steps) true true (x .after-input) (y .after-input) (x .input-pass) (y .input-pass) in
       let b = block-alike (subst (λ (z : Memory). Block-part p z (x .block-steps) (x .after-block) (before .phase) (m .phase)) (i .2) (x .block-part)) (y .block-part) in
-      let j = passes-alike p (of-module main-module) (y .after-block) (x .main-steps) (y .main-steps) true true (m .memory) (n .memory) (subst (λ (z : Memory). Passes p (of-module main-module) z (x .main-steps) true (m .memory)) (b .1) (x .main-pass)) (y .main-pass) in
+      let j = passes-alike p (Module main-module) (y .after-block) (x .main-steps) (y .main-steps) true true (m .memory) (n .memory) (subst (λ (z : Memory). Passes p (Module main-module) z (x .main-steps) true (m .memory)) (b .1) (x .main-pass)) (y .main-pass) in
       let e₁ = x .counted in
       let e₂ = y .counted in
       let a₁ = i .0 in
@@ -49,17 +50,17 @@ module _ (p : Program) where
 
   clears-alike : (before m n : Machine) → Clears p before m → Clears p before n → m ≡ n
   clears-alike before m n x y =
-      let i = passes-alike p (of-module clear-module) (before .memory) (x .steps) (y .steps) true true (x .cleared-memory) (y .cleared-memory) (x .clear-pass) (y .clear-pass) in
+      let i = passes-alike p (Module clear-module) (before .memory) (x .steps) (y .steps) true true (x .cleared-memory) (y .cleared-memory) (x .clear-pass) (y .clear-pass) in
       machine-eq m n (x .memory-is ∙ ap (block-points-back p) (i .2) ∙ sym (y .memory-is)) (x .phase-zero ∙ sym (y .phase-zero))
 
   halts-alike : (before m n : Machine) → Halts p before m → Halts p before n → m ≡ n
   halts-alike before m n x y =
-      let i = passes-alike p (of-module halt-module) (before .memory) (x .steps) (y .steps) true true (m .memory) (n .memory) (x .halt-pass) (y .halt-pass) in
+      let i = passes-alike p (Module halt-module) (before .memory) (x .steps) (y .steps) true true (m .memory) (n .memory) (x .halt-pass) (y .halt-pass) in
       machine-eq m n (i .2) (x .phase-stays ∙ sym (y .phase-stays))
 
   pub starts-alike : (r s : Answer) (m n : Machine) → Starts p r m → Starts p s n → (r ≡ s) × (m ≡ n)
   starts-alike r s m n x y =
-      let i = passes-alike p (of-module init-module) (fresh p) (x .steps) (y .steps) true true (m .memory) (n .memory) (x .init-pass) (y .init-pass) in
+      let i = passes-alike p (Module init-module) (fresh p) (x .steps) (y .steps) true true (m .memory) (n .memory) (x .init-pass) (y .init-pass) in
       let e = machine-eq m n (i .2) (x .phase-zero ∙ sym (y .phase-zero)) in
       (x .answers ∙ ap (λ (z : Machine). Done (z .phase)) e ∙ sym (y .answers), e)
 

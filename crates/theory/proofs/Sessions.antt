@@ -16,7 +16,9 @@ use Rattle.rules.specs.declared.session.Call.the-variants.{Scan, Clear, BlockSt
 use Rattle.rules.specs.declared.session.Answer.{Answer}
 use Rattle.rules.specs.declared.session.Answer.the-variants.{Scanned, Done, Refused}
 use Rattle.rules.specs.declared.refusal.Rule.the-variants.{BlockStartOutsidePhase0, ReportOutsidePhase2}
-use Rattle.rules.specs.Program.{Program, input-module, block-init, block-done, main-module, init-module, clear-module, halt-module, Part, of-module, of-mechanism, first, sequential}
+use Rattle.rules.specs.Program.{Program, input-module, block-init, block-done, main-module, init-module, clear-module, halt-module, first, sequential}
+use Rattle.rules.specs.declared.unit.UnitId.{UnitId}
+use Rattle.rules.specs.declared.unit.UnitId.the-variants.{Module, Mechanism}
 use Rattle.rules.specs.Number.{Bytes}
 use Rattle.rules.specs.Image.{data-section}
 use Rattle.rules.specs.Route.{Entry, Takes, Block-takes, Scan-takes, Greatest}
@@ -42,33 +44,33 @@ first-lines-length : (p : Program) (k : ℕ) (bs : List ℕ) → length (first-l
 first-lines-length p k [] = refl
 first-lines-length p k (b ∷ bs) = ap suc (first-lines-length p (k + 1) bs)
 
-first-lines-at : (p : Program) (k j : ℕ) (bs : List ℕ) → j < length bs → getD (first-lines p k bs) j 0 ≡ first p (of-mechanism (k + j))
+first-lines-at : (p : Program) (k j : ℕ) (bs : List ℕ) → j < length bs → getD (first-lines p k bs) j 0 ≡ first p (Mechanism (k + j))
 first-lines-at p k j [] h = absurd (omega arith)
-first-lines-at p k zero (b ∷ bs) h = let q : k ≡ k + 0 = omega arith in ap (λ (x : ℕ). first p (of-mechanism x)) q
-first-lines-at p k (suc j) (b ∷ bs) h = let q : k + 1 + j ≡ k + suc j = omega arith in first-lines-at p (k + 1) j bs (omega arith) ∙ ap (λ (x : ℕ). first p (of-mechanism x)) q
+first-lines-at p k zero (b ∷ bs) h = let q : k ≡ k + 0 = omega arith in ap (λ (x : ℕ). first p (Mechanism x)) q
+first-lines-at p k (suc j) (b ∷ bs) h = let q : k + 1 + j ≡ k + suc j = omega arith in first-lines-at p (k + 1) j bs (omega arith) ∙ ap (λ (x : ℕ). first p (Mechanism x)) q
 
 -- the block modules' points at their first lines
-block-entry : (p : Program) (n : ℕ) → Entry p (of-module n) (cond (eqb n block-init) (first p (of-module block-init)) (cond (eqb n block-done) (first p (of-module block-done)) (first p (of-module n))))
+block-entry : (p : Program) (n : ℕ) → Entry p (Module n) (cond (eqb n block-init) (first p (Module block-init)) (cond (eqb n block-done) (first p (Module block-done)) (first p (Module n))))
 block-entry p n = go (eqb n block-init) (eqb n block-done) refl refl
   where
-    go : (a b : Bool) → eqb n block-init ≡ a → eqb n block-done ≡ b → Entry p (of-module n) (cond a (first p (of-module block-init)) (cond b (first p (of-module block-done)) (first p (of-module n))))
-    go true b x y = inl (ap (λ (z : ℕ). first p (of-module z)) (sym (eqb-true n block-init x)))
-    go false true x y = inl (ap (λ (z : ℕ). first p (of-module z)) (sym (eqb-true n block-done y)))
+    go : (a b : Bool) → eqb n block-init ≡ a → eqb n block-done ≡ b → Entry p (Module n) (cond a (first p (Module block-init)) (cond b (first p (Module block-done)) (first p (Module n))))
+    go true b x y = inl (ap (λ (z : ℕ). first p (Module z)) (sym (eqb-true n block-init x)))
+    go false true x y = inl (ap (λ (z : ℕ). first p (Module z)) (sym (eqb-true n block-done y)))
     go false false x y = inl refl
 
 pub fresh-fits : (p : Program) → Fitting p (fresh p)
 fresh-fits p = record { bytes-fit = refl; points-fit = first-lines-length p 0 (p .activation); pointed = pointed-first }
   where
     pointed-first : Pointed p (fresh p)
-    pointed-first (of-module n) h s = block-entry p n
-    pointed-first (of-mechanism k) h s = inl (first-lines-at p 0 k (p .activation) h ∙ (let q : 0 + k ≡ k = omega arith in ap (λ (x : ℕ). first p (of-mechanism x)) q))
+    pointed-first (Module n) h s = block-entry p n
+    pointed-first (Mechanism k) h s = inl (first-lines-at p 0 k (p .activation) h ∙ (let q : 0 + k ≡ k = omega arith in ap (λ (x : ℕ). first p (Mechanism x)) q))
 
 back-fits : (p : Program) (m : Memory) → Fitting p m → Fitting p (block-points-back p m)
 back-fits p m f = record { bytes-fit = f .bytes-fit; points-fit = f .points-fit; pointed = pointed-back }
   where
     pointed-back : Pointed p (block-points-back p m)
-    pointed-back (of-module n) h s = block-entry p n
-    pointed-back (of-mechanism k) h s = f .pointed (of-mechanism k) h s
+    pointed-back (Module n) h s = block-entry p n
+    pointed-back (Mechanism k) h s = f .pointed (Mechanism k) h s
 
 module _ (p : Program) (form : Formed p) where
   pub inputs-fit : (m : Memory) (ins : List ℕ) → length ins ≡ 8 → Fitting p m → Fitting p (with-inputs m ins)
@@ -78,7 +80,7 @@ module _ (p : Program) (form : Formed p) where
       bytes-kept p m f (ins ++ drop 8 (m .bytes)) (simp (length-append, length-drop) (omega arith))
 
   -- a finished pass leaves a memory that fits, and has taken a route
-  pub passed-fits : (t : ℕ) (m : Memory) (n : ℕ) (b : Bool) (m′ : Memory) → t < 7 → Fitting p m → Passes p (of-module t) m n b m′ → Fitting p m′ × Takes p (of-module t) n
+  pub passed-fits : (t : ℕ) (m : Memory) (n : ℕ) (b : Bool) (m′ : Memory) → t < 7 → Fitting p m → Passes p (Module t) m n b m′ → Fitting p m′ × Takes p (Module t) n
   passed-fits t m n b m′ h f q =
       let s = runs-stand p (form .shaped) (orderly p form) t m (named p (form .shaped) t h) f n (q .last) (q .runs) in
       (subst (λ (x : Memory). Fitting p x) (q .memory-after) (s .fitting), subst (λ (x : Place). Routed p t n x (q .last .registers .cells)) (q .over-at) (s .routed) .0)
@@ -134,10 +136,10 @@ module _ (p : Program) (acc : Accepted p) where
     pub fits : Fitting p (machine .memory)
     pub small : Bytes (machine .memory .bytes)
 
-  whole-pass : (t : ℕ) (m : Memory) → t < 7 → sequential (of-module t) ≡ false → Fitting p m → (n : ℕ) × (m′ : Memory) × Passes p (of-module t) m n true m′ × Fitting p m′
+  whole-pass : (t : ℕ) (m : Memory) → t < 7 → sequential (Module t) ≡ false → Fitting p m → (n : ℕ) × (m′ : Memory) × Passes p (Module t) m n true m′ × Fitting p m′
   whole-pass t m h z f =
       let e = passes-end p t m acc (named p (acc .shaped) t h) f in
-      let q = subst (λ (b : Bool). Passes p (of-module t) m (e .0) b (e .2)) (e .5 z) (e .3) in
+      let q = subst (λ (b : Bool). Passes p (Module t) m (e .0) b (e .2)) (e .5 z) (e .3) in
       (e .0, e .2, q, passed-fits p form t m (e .0) true (e .2) h f q .0)
 
   block-exists : (m : Memory) (q : Phase) → Fitting p m → (n : ℕ) × (m′ : Memory) × (q′ : Phase) × Block-part p m n m′ q q′ × Fitting p m′
@@ -211,10 +213,10 @@ module _ (p : Program) (acc : Accepted p) where
   -- THE NEXT CALL'S PASSES
 
   module _ (lines stack scan : ℕ) (cert : Certified p lines stack scan) where
-    ruled-by : (t : ℕ) (m : Memory) → t < 7 → Fitting p m → (u : Part) → u ≡ of-module t → Ruled p stack u m
-    ruled-by t m h f u e = subst (λ (z : Part). Ruled p stack z m) (sym e) (passes-are-ruled p lines stack scan acc cert (of-module t) m (named p (acc .shaped) t h) f)
+    ruled-by : (t : ℕ) (m : Memory) → t < 7 → Fitting p m → (u : UnitId) → u ≡ Module t → Ruled p stack u m
+    ruled-by t m h f u e = subst (λ (z : UnitId). Ruled p stack z m) (sym e) (passes-are-ruled p lines stack scan acc cert (Module t) m (named p (acc .shaped) t h) f)
 
-    next-ruled : (ins : List ℕ) (machine : Machine) → length ins ≡ 8 → Fitting p (machine .memory) → (u : Part) (m : Memory) → Runs-pass p machine ins u m → Ruled p stack u m
+    next-ruled : (ins : List ℕ) (machine : Machine) → length ins ≡ 8 → Fitting p (machine .memory) → (u : UnitId) (m : Memory) → Runs-pass p machine ins u m → Ruled p stack u m
     next-ruled ins machine l f u m (for-input e q) = ruled-by input-module m (lit< tt) (subst (λ (z : Memory). Fitting p z) (sym q) (inputs-fit p form (machine .memory) ins l f)) u e
     next-ruled ins machine l f u m (for-block {a = a} q (inl e)) = ruled-by block-init m (lit< tt) (passed-fits p form input-module (with-inputs (machine .memory) ins) a true m (lit< tt) (inputs-fit p form (machine .memory) ins l f) q .0) u (e .1)
     next-ruled ins machine l f u m (for-block {a = a} q (inr e)) = ruled-by block-done m (lit< tt) (passed-fits p form input-module (with-inputs (machine .memory) ins) a true m (lit< tt) (inputs-fit p form (machine .memory) ins l f) q .0) u (e .1)
@@ -300,7 +302,7 @@ module _ {X : Type 0} (M : Meaning X) (law : Lawful M) (p : Program) (acc : Acce
   guaranteed = record {
     at-most-eight = stack-at-most-eight p lines stack scan acc cert;
     one-start = one-start p acc;
-    start-ruled = passes-are-ruled p lines stack scan acc cert (of-module init-module) (fresh p) (named p (acc .shaped) init-module (lit< tt)) (fresh-fits p);
+    start-ruled = passes-are-ruled p lines stack scan acc cert (Module init-module) (fresh p) (named p (acc .shaped) init-module (lit< tt)) (fresh-fits p);
     kept = λ x₀ a done machine x s. (let h = session-holds x₀ a done machine x s in
         record {
           ruled = next-ruled p acc lines stack scan cert (M .inputs x) machine (law .eight-inputs x .eight) (h .ready .fits);

@@ -14,7 +14,9 @@ use Rattle.std.specs.declared.option.Option.the-variants.{Some, None}
 use Rattle.std.proofs.shelf.Tests.{eqb-true, eqb-false, cases-eq, and-right, true≢false}
 use Rattle.rules.specs.declared.line.Line.{Line}
 use Rattle.rules.specs.Op.{is-begin, is-jump, is-exit, is-ex, Op, jl, ex, ex-if, mech-begin, mech-init}
-use Rattle.rules.specs.Program.{Program, line-at, op-at, main-module, Part, of-module, of-mechanism, Own, end-line, first, end, after, Real, sequential, flag-at, pushes, pops}
+use Rattle.rules.specs.Program.{Program, line-at, op-at, main-module, Own, end-line, first, end, after, Real, sequential, flag-at, pushes, pops}
+use Rattle.rules.specs.declared.unit.UnitId.{UnitId}
+use Rattle.rules.specs.declared.unit.UnitId.the-variants.{Module, Mechanism}
 use Rattle.rules.specs.Form.{Shaped, Reaches}
 use Rattle.rules.specs.Route.{Way, Arrives, at-entry, passed, Route, to-end, stopped, Steps, none, line, entered, Takes, change, depth}
 use Rattle.rules.specs.Verdict.{off}
@@ -37,7 +39,7 @@ pub record Stands (p : Program) (t k : ℕ) (c : Config) : Type 0 where
   pub routed : Routed p t k (c .place) (c .registers .cells)
 
 -- what a route brings to a place of unit u
-record Brings (p : Program) (t k : ℕ) (u : Part) (path : List ℕ) (l : ℕ) (r : Registers) (m : Memory) : Type 0 where
+record Brings (p : Program) (t k : ℕ) (u : UnitId) (path : List ℕ) (l : ℕ) (r : Registers) (m : Memory) : Type 0 where
   real : Real p u
   tracked : Tracked p t u path k
   arrives : Arrives p u path l
@@ -62,23 +64,23 @@ change-is p l o s =
     let b : pops p l ≡ pop-of o = s .pop-is in
     ap (λ (x : Bool). cond x (pos 1) (cond (pops p l) (negsuc 0) (pos 0))) a ∙ ap (λ (x : Bool). cond (push-of (flag-at p l) o) (pos 1) (cond x (negsuc 0) (pos 0))) b
 
-at-here : {p : Program} {t k : ℕ} {u : Part} {path : List ℕ} {l : ℕ} {r : Registers} {m : Memory} → Brings p t k u path l r m → Own p u l → Stands p t k (record { place = at u l; registers = r; memory = m })
+at-here : {p : Program} {t k : ℕ} {u : UnitId} {path : List ℕ} {l : ℕ} {r : Registers} {m : Memory} → Brings p t k u path l r m → Own p u l → Stands p t k (record { place = at u l; registers = r; memory = m })
 at-here {path = path} b o = record { fitting = b .fitting; at-most = b .at-most; routed = (path, b .tracked, record { real = b .real; own = o; arrives = b .arrives; held = b .held }) }
 
-own-now : {p : Program} {u : Part} {l : ℕ} → Stays p u l → eqb l (end p u) ≡ false → Own p u l
+own-now : {p : Program} {u : UnitId} {l : ℕ} → Stays p u l → eqb l (end p u) ≡ false → Own p u l
 own-now (inl o) e = o
 own-now {p} {u} {l} (inr q) e = absurd (eqb-false l (end p u) e q)
 
-arrive-module-stands : (p : Program) (t k n : ℕ) (path : List ℕ) (l : ℕ) (r : Registers) (m : Memory) → Brings p t k (of-module n) path l r m → Stands p t k (arrive-module p n l r m)
-arrive-module-stands p t k n path l r m b = go (eqb l (end p (of-module n))) refl
+arrive-module-stands : (p : Program) (t k n : ℕ) (path : List ℕ) (l : ℕ) (r : Registers) (m : Memory) → Brings p t k (Module n) path l r m → Stands p t k (arrive-module p n l r m)
+arrive-module-stands p t k n path l r m b = go (eqb l (end p (Module n))) refl
   where
-    go : (x : Bool) → eqb l (end p (of-module n)) ≡ x → Stands p t k (cond x (finished true (with-point m (of-module n) (first p (of-module n)))) (record { place = at (of-module n) l; registers = r; memory = m }))
+    go : (x : Bool) → eqb l (end p (Module n)) ≡ x → Stands p t k (cond x (finished true (with-point m (Module n) (first p (Module n)))) (record { place = at (Module n) l; registers = r; memory = m }))
     go true e =
-        let q : l ≡ end p (of-module n) = eqb-true l (end p (of-module n)) e in
+        let q : l ≡ end p (Module n) = eqb-true l (end p (Module n)) e in
         record {
-          fitting = point-kept p m (b .fitting) (of-module n) (first p (of-module n)) (b .real) (inl refl);
+          fitting = point-kept p m (b .fitting) (Module n) (first p (Module n)) (b .real) (inl refl);
           at-most = omega arith;
-          routed = (subst (λ (x : ℕ). Takes p (of-module x) k) (b .tracked .0) (path, to-end (subst (λ (x : ℕ). Arrives p (of-module n) path x) q (b .arrives)), b .tracked .1), λ z. absurd (true≢false z), refl);
+          routed = (subst (λ (x : ℕ). Takes p (Module x) k) (b .tracked .0) (path, to-end (subst (λ (x : ℕ). Arrives p (Module n) path x) q (b .arrives)), b .tracked .1), λ z. absurd (true≢false z), refl);
         }
     go false e = at-here b (own-now (b .stays) e)
 
@@ -104,7 +106,7 @@ may-go-on s false e = ap (λ (c : ℕ). eqb c 11) (code-by s (ex-if false) e)
 may-go-on s true e = ap (λ (c : ℕ). eqb c 11) (code-by s (ex-if true) e)
 
 module _ (p : Program) (sec : Shaped p) (ord : Orderly p) where
-  main-real : Real p (of-module main-module)
+  main-real : Real p (Module main-module)
   main-real = named p sec main-module (lit< tt)
 
   -- the lines of MAIN that begin a mechanism stack nothing, and find nothing stacked
@@ -133,37 +135,37 @@ module _ (p : Program) (sec : Shaped p) (ord : Orderly p) where
       (record { real = main-real; tracked = (sym q, st); arrives = passed (o .arrives) (o .own) (inl (not-exit (o .begin-at) (o .begin-there), sym past)); stays = past-mechanism p sec ord j s; held = λ bal. outer-depth o bal; at-most = omega arith; fitting = f })
 
   -- the steps of MAIN's route with a mechanism's in it
-  inner-steps : {j n : ℕ} (o : Outer p j n) (inner : List ℕ) (k : ℕ) → Route p (of-mechanism j) inner → k ≡ n + 1 + length inner → Steps p (o .begin-at ∷ o .path) k
-  inner-steps {j} {n} o inner k r e = let e₂ : suc (n + length inner) ≡ k = omega arith in subst (λ (x : ℕ). Steps p (o .begin-at ∷ o .path) x) e₂ (entered (o .begin-there) (subst (λ (x : ℕ). Route p (of-mechanism x) inner) (sym (o .names)) r) (o .steps))
+  inner-steps : {j n : ℕ} (o : Outer p j n) (inner : List ℕ) (k : ℕ) → Route p (Mechanism j) inner → k ≡ n + 1 + length inner → Steps p (o .begin-at ∷ o .path) k
+  inner-steps {j} {n} o inner k r e = let e₂ : suc (n + length inner) ≡ k = omega arith in subst (λ (x : ℕ). Steps p (o .begin-at ∷ o .path) x) e₂ (entered (o .begin-there) (subst (λ (x : ℕ). Route p (Mechanism x) inner) (sym (o .names)) r) (o .steps))
 
-  arrive-stands : (t k : ℕ) (u : Part) (path : List ℕ) (l : ℕ) (r : Registers) (m : Memory) → Brings p t k u path l r m → Stands p t k (arrive p u l r m)
-  arrive-stands t k (of-module n) path l r m b = arrive-module-stands p t k n path l r m b
-  arrive-stands t k (of-mechanism j) path l r m b = go (eqb l (end p (of-mechanism j))) refl
+  arrive-stands : (t k : ℕ) (u : UnitId) (path : List ℕ) (l : ℕ) (r : Registers) (m : Memory) → Brings p t k u path l r m → Stands p t k (arrive p u l r m)
+  arrive-stands t k (Module n) path l r m b = arrive-module-stands p t k n path l r m b
+  arrive-stands t k (Mechanism j) path l r m b = go (eqb l (end p (Mechanism j))) refl
     where
-      go : (x : Bool) → eqb l (end p (of-mechanism j)) ≡ x → Stands p t k (cond x (main-after p j (with-point m (of-mechanism j) (first p (of-mechanism j)))) (record { place = at (of-mechanism j) l; registers = r; memory = m }))
+      go : (x : Bool) → eqb l (end p (Mechanism j)) ≡ x → Stands p t k (cond x (main-after p j (with-point m (Mechanism j) (first p (Mechanism j)))) (record { place = at (Mechanism j) l; registers = r; memory = m }))
       go true e =
-          let q : l ≡ end p (of-mechanism j) = eqb-true l (end p (of-mechanism j)) e in
+          let q : l ≡ end p (Mechanism j) = eqb-true l (end p (Mechanism j)) e in
           let o = b .tracked .2 in
-          main-after-stands t k j (b .tracked .0) (with-point m (of-mechanism j) (first p (of-mechanism j))) o (b .tracked .1) (span p sec ord j (b .real))
-          (inner-steps o path k (to-end (subst (λ (x : ℕ). Arrives p (of-mechanism j) path x) q (b .arrives))) (b .tracked .3))
-          (point-kept p m (b .fitting) (of-mechanism j) (first p (of-mechanism j)) (b .real) (inl refl))
+          main-after-stands t k j (b .tracked .0) (with-point m (Mechanism j) (first p (Mechanism j))) o (b .tracked .1) (span p sec ord j (b .real))
+          (inner-steps o path k (to-end (subst (λ (x : ℕ). Arrives p (Mechanism j) path x) q (b .arrives))) (b .tracked .3))
+          (point-kept p m (b .fitting) (Mechanism j) (first p (Mechanism j)) (b .real) (inl refl))
       go false e = at-here b (own-now (b .stays) e)
 
   -- a pass is left at an EX-type line
-  leave-stands : (t k : ℕ) (u : Part) (path : List ℕ) (l : ℕ) (m : Memory) → Real p u → Tracked p t u path k → Arrives p u path l → Own p u l → is-exit (line-at p l) ≡ true → Fitting p m → Stands p t (suc k) (leave p u m)
-  leave-stands t k (of-module n) path l m h tr a o e f =
-      record { fitting = f; at-most = omega arith; routed = (subst (λ (x : ℕ). Takes p (of-module x) (suc k)) (tr .0) (l ∷ path, stopped a o e, line (tr .1)), λ _. subst (λ (x : ℕ). sequential (of-module x) ≡ true) (tr .0) (subst (λ (x : Part). sequential x ≡ true) (o .part) (ord .exit-sequential l (o .within) e)), refl) }
-  leave-stands t k (of-mechanism j) path l m h tr a o e f =
+  leave-stands : (t k : ℕ) (u : UnitId) (path : List ℕ) (l : ℕ) (m : Memory) → Real p u → Tracked p t u path k → Arrives p u path l → Own p u l → is-exit (line-at p l) ≡ true → Fitting p m → Stands p t (suc k) (leave p u m)
+  leave-stands t k (Module n) path l m h tr a o e f =
+      record { fitting = f; at-most = omega arith; routed = (subst (λ (x : ℕ). Takes p (Module x) (suc k)) (tr .0) (l ∷ path, stopped a o e, line (tr .1)), λ _. subst (λ (x : ℕ). sequential (Module x) ≡ true) (tr .0) (subst (λ (x : UnitId). sequential x ≡ true) (o .part) (ord .exit-sequential l (o .within) e)), refl) }
+  leave-stands t k (Mechanism j) path l m h tr a o e f =
       main-after-stands t (suc k) j (tr .0) m (tr .2) (tr .1) (span p sec ord j h) (inner-steps (tr .2) (l ∷ path) (suc k) (stopped a o e) (let q = tr .3 in omega arith)) f
 
-  tracked-on : (t k : ℕ) (u : Part) (path : List ℕ) (l : ℕ) → Tracked p t u path k → Tracked p t u (l ∷ path) (suc k)
-  tracked-on t k (of-module n) path l tr = (tr .0, line (tr .1))
-  tracked-on t k (of-mechanism j) path l tr = (tr .0, tr .1, tr .2, (let q = tr .3 in omega arith))
+  tracked-on : (t k : ℕ) (u : UnitId) (path : List ℕ) (l : ℕ) → Tracked p t u path k → Tracked p t u (l ∷ path) (suc k)
+  tracked-on t k (Module n) path l tr = (tr .0, line (tr .1))
+  tracked-on t k (Mechanism j) path l tr = (tr .0, tr .1, tr .2, (let q = tr .3 in omega arith))
 
   -- ONE STEP
 
   -- a line of unit u has been executed
-  record Executed (t k : ℕ) (u : Part) (path : List ℕ) (l : ℕ) (o : Op) (r : Registers) (m : Memory) : Type 0 where
+  record Executed (t k : ℕ) (u : UnitId) (path : List ℕ) (l : ℕ) (o : Op) (r : Registers) (m : Memory) : Type 0 where
     real : Real p u
     own : Own p u l
     arrives : Arrives p u path l
@@ -174,29 +176,29 @@ module _ (p : Program) (sec : Shaped p) (ord : Orderly p) where
     at-most : length (r .cells) ≤ 8
     fitting : Fitting p m
 
-  moved : (t k : ℕ) (u : Part) (path : List ℕ) (l : ℕ) (o : Op) (r : Registers) (m m′ : Memory) (j : ℕ) → Executed t k u path l o r m → Fitting p m′ → Way p l j → Stays p u j → Stands p t (suc k) (arrive p u j r m′)
+  moved : (t k : ℕ) (u : UnitId) (path : List ℕ) (l : ℕ) (o : Op) (r : Registers) (m m′ : Memory) (j : ℕ) → Executed t k u path l o r m → Fitting p m′ → Way p l j → Stays p u j → Stands p t (suc k) (arrive p u j r m′)
   moved t k u path l o r m m′ j x f w s =
       arrive-stands t (suc k) u (l ∷ path) j r m′
       (record { real = x .real; tracked = tracked-on t k u path l (x .before); arrives = passed (x .arrives) (x .own) w; stays = s; held = x .held; at-most = x .at-most; fitting = f })
 
   -- only MAIN begins mechanisms
-  begins-in-main : (u : Part) (l : ℕ) → Own p u l → is-begin (line-at p l) ≡ true → u ≡ of-module main-module
-  begins-in-main (of-module n) l o b = ap of-module (sym (own-module p n l o .0) ∙ ord .begin-main l (o .within) b)
-  begins-in-main (of-mechanism k) l o b = clash (of-mechanism k ≡ of-module main-module) k (sym (own-mechanism p k l o .1) ∙ ord .begin-shut l (o .within) b)
+  begins-in-main : (u : UnitId) (l : ℕ) → Own p u l → is-begin (line-at p l) ≡ true → u ≡ Module main-module
+  begins-in-main (Module n) l o b = ap Module (sym (own-module p n l o .0) ∙ ord .begin-main l (o .within) b)
+  begins-in-main (Mechanism k) l o b = clash (Mechanism k ≡ Module main-module) k (sym (own-mechanism p k l o .1) ∙ ord .begin-shut l (o .within) b)
 
-  outer-of : (t k : ℕ) (u : Part) (path : List ℕ) (l j : ℕ) → u ≡ of-module main-module → Own p u l → Arrives p u path l → Tracked p t u path k → is-begin (line-at p l) ≡ true → line-at p l .operand ≡ j → (t ≡ main-module) × ((q : Outer p j k) × (Steps p (q .begin-at ∷ q .path) (suc k)))
-  outer-of t k (of-mechanism i) path l j e o a tr b n = absurd (let z : _≡_ {A = ℕ} 0 1 = cc e in omega arith)
-  outer-of t k (of-module i) path l j e o a tr b n =
+  outer-of : (t k : ℕ) (u : UnitId) (path : List ℕ) (l j : ℕ) → u ≡ Module main-module → Own p u l → Arrives p u path l → Tracked p t u path k → is-begin (line-at p l) ≡ true → line-at p l .operand ≡ j → (t ≡ main-module) × ((q : Outer p j k) × (Steps p (q .begin-at ∷ q .path) (suc k)))
+  outer-of t k (Mechanism i) path l j e o a tr b n = absurd (let z : _≡_ {A = ℕ} 0 1 = cc e in omega arith)
+  outer-of t k (Module i) path l j e o a tr b n =
       let q : i ≡ main-module = cc e in
-      (sym (tr .0) ∙ q, (record { path = path; begin-at = l; arrives = subst (λ (x : ℕ). Arrives p (of-module x) path l) q a; own = subst (λ (x : ℕ). Own p (of-module x) l) q o; begin-there = b; names = n; steps = tr .1 }, line (tr .1)))
+      (sym (tr .0) ∙ q, (record { path = path; begin-at = l; arrives = subst (λ (x : ℕ). Arrives p (Module x) path l) q a; own = subst (λ (x : ℕ). Own p (Module x) l) q o; begin-there = b; names = n; steps = tr .1 }, line (tr .1)))
 
-  pub enter-mechanism : (t k j n : ℕ) (m : Memory) → Real p (of-mechanism j) → t ≡ main-module → Outer p j n → k ≡ suc n → Fitting p m → Stands p t k (enter p (of-mechanism j) m)
+  pub enter-mechanism : (t k j n : ℕ) (m : Memory) → Real p (Mechanism j) → t ≡ main-module → Outer p j n → k ≡ suc n → Fitting p m → Stands p t k (enter p (Mechanism j) m)
   enter-mechanism t k j n m h q o e f =
-      let en = Points.entered p m f (of-mechanism j) h in
-      arrive-stands t k (of-mechanism j) [] (point p m (of-mechanism j)) cleared m
-      (record { real = h; tracked = (n, q, o, omega arith); arrives = at-entry en; stays = entry-stays p sec ord (of-mechanism j) (point p m (of-mechanism j)) h en; held = λ _. refl; at-most = omega arith; fitting = f })
+      let en = Points.entered p m f (Mechanism j) h in
+      arrive-stands t k (Mechanism j) [] (point p m (Mechanism j)) cleared m
+      (record { real = h; tracked = (n, q, o, omega arith); arrives = at-entry en; stays = entry-stays p sec ord (Mechanism j) (point p m (Mechanism j)) h en; held = λ _. refl; at-most = omega arith; fitting = f })
 
-  turned-stands : (t k : ℕ) (u : Part) (path : List ℕ) (l : ℕ) (o : Op) (r : Registers) (m : Memory) → Executed t k u path l o r m → (w : Turn) → Turns o w → Stands p t (suc k) (turned p u l r m w)
+  turned-stands : (t k : ℕ) (u : UnitId) (path : List ℕ) (l : ℕ) (o : Op) (r : Registers) (m : Memory) → Executed t k u path l o r m → (w : Turn) → Turns o w → Stands p t (suc k) (turned p u l r m w)
   turned-stands t k u path l o r m x follows h = moved t k u path l o r m m (after p l) x (x .fitting) (inl (ap (λ (c : ℕ). eqb c 11) (x .says .code-is) ∙ h, refl)) (after-stays p sec ord u l (x .real) (x .own))
   turned-stands t k u path l o r m x (goes y) h =
       let j = jump-by (x .says) (h .0) y (h .1) in
@@ -219,7 +221,7 @@ module _ (p : Program) (sec : Shaped p) (ord : Orderly p) where
       main-after-stands t (suc k) j k m (g .1 .0) (g .0) (span p sec ord j (subst (λ (z : Op). Reaches p (line-at p l) (Some z)) h (x .reaches))) (g .1 .1) (x .fitting)
   turned-stands t k u path l o r m x (resets j) h =
       let e : j < length (p .activation) = subst (λ (z : Op). Reaches p (line-at p l) (Some z)) h (x .reaches) in
-      moved t k u path l o r m (with-point m (of-mechanism j) (first p (of-mechanism j))) (after p l) x (point-kept p m (x .fitting) (of-mechanism j) (first p (of-mechanism j)) e (inl refl)) (inl (ap (λ (c : ℕ). eqb c 11) (code-by (x .says) (mech-init j) h), refl)) (after-stays p sec ord u l (x .real) (x .own))
+      moved t k u path l o r m (with-point m (Mechanism j) (first p (Mechanism j))) (after p l) x (point-kept p m (x .fitting) (Mechanism j) (first p (Mechanism j)) e (inl refl)) (inl (ap (λ (c : ℕ). eqb c 11) (code-by (x .says) (mech-init j) h), refl)) (after-stays p sec ord u l (x .real) (x .own))
 
   pub step-stands : (t k : ℕ) (c d : Config) → Stands p t k c → Step p c d → Stands p t (suc k) d
   step-stands t k c d s (step {u = u} {l = l} pl own e) =
@@ -238,13 +240,13 @@ module _ (p : Program) (sec : Shaped p) (ord : Orderly p) where
           let same : turned p u l (n .registers) (with-bytes (c .memory) (n .bytes)) (n .turn) ≡ d = cc e in
           subst (λ (z : Config). Stands p t (suc k) z) same (turned-stands t k u (ro .0) l o (n .registers) (with-bytes (c .memory) (n .bytes)) x (n .turn) (g .turns))
 
-  starts-standing : (t : ℕ) (m : Memory) → t < length (p .lengths) → Fitting p m → Stands p t 0 (enter p (of-module t) m)
+  starts-standing : (t : ℕ) (m : Memory) → t < length (p .lengths) → Fitting p m → Stands p t 0 (enter p (Module t) m)
   starts-standing t m h f =
-      let en = Points.entered p m f (of-module t) h in
-      arrive-module-stands p t 0 t [] (point p m (of-module t)) cleared m
-      (record { real = h; tracked = (refl, none); arrives = at-entry en; stays = entry-stays p sec ord (of-module t) (point p m (of-module t)) h en; held = λ _. refl; at-most = omega arith; fitting = f })
+      let en = Points.entered p m f (Module t) h in
+      arrive-module-stands p t 0 t [] (point p m (Module t)) cleared m
+      (record { real = h; tracked = (refl, none); arrives = at-entry en; stays = entry-stays p sec ord (Module t) (point p m (Module t)) h en; held = λ _. refl; at-most = omega arith; fitting = f })
 
-  pub runs-stand : (t : ℕ) (m : Memory) → t < length (p .lengths) → Fitting p m → (k : ℕ) (c : Config) → Runs p (enter p (of-module t) m) k c → Stands p t k c
+  pub runs-stand : (t : ℕ) (m : Memory) → t < length (p .lengths) → Fitting p m → (k : ℕ) (c : Config) → Runs p (enter p (Module t) m) k c → Stands p t k c
   runs-stand t m h f k c here = starts-standing t m h f
   runs-stand t m h f k c (on {n = n} {d = d} r s) = step-stands t n d c (runs-stand t m h f n d r) s
 
@@ -260,11 +262,11 @@ module _ (p : Program) (sec : Shaped p) (ord : Orderly p) where
   pub goes-on : (t k : ℕ) (c : Config) → Balanced p → Stands p t k c → ((b : Bool) × (c .place ≡ over b)) ⊎ ((d : Config) × Step p c d)
   goes-on t k c bal s = go (c .place) refl (s .routed)
     where
-      room : (l : ℕ) (u : Part) (path : List ℕ) (o : Op) → On-route p u l path (c .registers .cells) → Says (line-at p l) o → push-of (flag-at p l) o ≡ true → (length (c .registers .cells) ≡ 8) ⊎ (length (c .registers .cells) ≡ 8 → ⊥) → length (c .registers .cells) < 8
+      room : (l : ℕ) (u : UnitId) (path : List ℕ) (o : Op) → On-route p u l path (c .registers .cells) → Says (line-at p l) o → push-of (flag-at p l) o ≡ true → (length (c .registers .cells) ≡ 8) ⊎ (length (c .registers .cells) ≡ 8 → ⊥) → length (c .registers .cells) < 8
       room l u path o w says h (inl q) = absurd (bal l (off (w .real) (w .arrives) (inr (inl (w .own, pushes-is l o says ∙ h, w .held bal ∙ ap pos q)))))
       room l u path o w says h (inr q) = let x = s .at-most in omega arith
 
-      work : (u : Part) (l : ℕ) (o : Op) → op-at p l ≡ Some o → (path : List ℕ) → On-route p u l path (c .registers .cells) → (n : Done) × (effect (flag-at p l) (p .activation) o (c .registers) (c .memory .bytes) ≡ Some n)
+      work : (u : UnitId) (l : ℕ) (o : Op) → op-at p l ≡ Some o → (path : List ℕ) → On-route p u l path (c .registers .cells) → (n : Done) × (effect (flag-at p l) (p .activation) o (c .registers) (c .memory .bytes) ≡ Some n)
       work u l o e path w =
           let says = decode-says (line-at p l) o e in
           works p (line-at p l) (flag-at p l) (c .registers) (c .memory .bytes) (s .fitting .bytes-fit) (sec .activation-inside) o (subst (λ (z : Option Op). Reaches p (line-at p l) z) e (ord .reaches l (w .own .within)))

@@ -13,7 +13,9 @@ use Rattle.std.specs.declared.option.Option.the-variants.{None}
 use Rattle.std.proofs.shelf.Signed.{ints}
 use Rattle.std.proofs.shelf.Tests.{false≢true, cases-eq}
 use Rattle.rules.specs.Op.{LDR, LA, WR, JL1, is-begin, is-end, is-init, is-jump, is-exit}
-use Rattle.rules.specs.Program.{Program, Part, of-module, of-mechanism, Own, Real, line-at, op-at, open-at, part-of, first, end, after, pushes, pops, input-module, block-init, block-done, main-module}
+use Rattle.rules.specs.Program.{Program, Own, Real, line-at, op-at, open-at, unit-of, first, end, after, pushes, pops, input-module, block-init, block-done, main-module}
+use Rattle.rules.specs.declared.unit.UnitId.{UnitId}
+use Rattle.rules.specs.declared.unit.UnitId.the-variants.{Module, Mechanism}
 use Rattle.rules.specs.Image.{Section, data-section, mechanism-section, module-section, line-section, least-count, most-count}
 use Rattle.rules.specs.Form.{records, Shaped, Reaches, Lands}
 use Rattle.rules.specs.Route.{Way, Entry, Arrives, at-entry, passed, to-end, none, line, Takes, Block-takes, Scan-takes, change, depth}
@@ -42,33 +44,33 @@ each P (suc n) h l g = go (cases-eq l n) (λ k. each P n (h .0) l k)
 
 -- a line of INPUT that breaks no rule by itself and is no line of a mechanism or of a sequential unit
 abbrev Fine : Program → ℕ → Type 0
-Fine p l = ((op-at p l ≡ None → ⊥) × Reaches p (line-at p l) (op-at p l) × (is-begin (line-at p l) ≡ false)) × (is-end (line-at p l) ≡ false) × (is-init (line-at p l) ≡ false) × (is-exit (line-at p l) ≡ false) × (part-of p l ≡ of-module input-module)
+Fine p l = ((op-at p l ≡ None → ⊥) × Reaches p (line-at p l) (op-at p l) × (is-begin (line-at p l) ≡ false)) × (is-end (line-at p l) ≡ false) × (is-init (line-at p l) ≡ false) × (is-exit (line-at p l) ≡ false) × (unit-of p l ≡ Module input-module)
 
 -- where a line can lead: to the next, or, where it jumps, to a later line or the end of INPUT
 abbrev Leads : Program → ℕ → Type 0
-Leads p l = (after p l ≡ suc l) × ((is-jump (line-at p l) ≡ false) ⊎ ((l < line-at p l .operand) × (line-at p l .operand < length (p .lines)) × (part-of p (line-at p l .operand) ≡ of-module input-module)))
+Leads p l = (after p l ≡ suc l) × ((is-jump (line-at p l) ≡ false) ⊎ ((l < line-at p l .operand) × (line-at p l .operand < length (p .lines)) × (unit-of p (line-at p l .operand) ≡ Module input-module)))
 
 -- what a program of INPUT lines has
 record Inputs (p : Program) : Type 0 where
   shaped : Shaped p
   no-mechanism : length (p .activation) ≡ 0
-  shut : (l : ℕ) → l ≡ end p (of-module main-module) → open-at p l ≡ None
-  input-first : first p (of-module input-module) ≡ 0
-  input-end : end p (of-module input-module) ≡ length (p .lines)
+  shut : (l : ℕ) → l ≡ end p (Module main-module) → open-at p l ≡ None
+  input-first : first p (Module input-module) ≡ 0
+  input-end : end p (Module input-module) ≡ length (p .lines)
   fine : (l : ℕ) → l < length (p .lines) → Fine p l
   leads : (l : ℕ) → l < length (p .lines) → Leads p l
 
 module _ (p : Program) (inp : Inputs p) where
   -- every line is INPUT's
-  only-input : {u : Part} {l : ℕ} → Own p u l → u ≡ of-module input-module
+  only-input : {u : UnitId} {l : ℕ} → Own p u l → u ≡ Module input-module
   only-input {u} {l} o = sym (o .part) ∙ inp .fine l (o .within) .4
 
-  lands : (l : ℕ) → l < length (p .lines) → is-jump (line-at p l) ≡ true → ((l < line-at p l .operand) × Lands p (line-at p l .operand) (part-of p l) → ⊥) → ⊥
+  lands : (l : ℕ) → l < length (p .lines) → is-jump (line-at p l) ≡ true → ((l < line-at p l .operand) × Lands p (line-at p l .operand) (unit-of p l) → ⊥) → ⊥
   lands l h j n = go (inp .leads l h .1)
     where
-      go : (is-jump (line-at p l) ≡ false) ⊎ ((l < line-at p l .operand) × (line-at p l .operand < length (p .lines)) × (part-of p (line-at p l .operand) ≡ of-module input-module)) → ⊥
+      go : (is-jump (line-at p l) ≡ false) ⊎ ((l < line-at p l .operand) × (line-at p l .operand < length (p .lines)) × (unit-of p (line-at p l .operand) ≡ Module input-module)) → ⊥
       go (inl f) = false≢true (sym f ∙ j)
-      go (inr (a, b, c)) = n (a, subst (λ (u : Part). Lands p (line-at p l .operand) u) (sym (inp .fine l h .4)) (inl (record { within = b; part = c })))
+      go (inr (a, b, c)) = n (a, subst (λ (u : UnitId). Lands p (line-at p l .operand) u) (sym (inp .fine l h .4)) (inl (record { within = b; part = c })))
 
   -- no rule below that of the depths is broken
   low-unbroken : (r l : ℕ) → Breaks p r l → (r ≡ 13) ⊎ (r ≡ 14)
@@ -90,7 +92,7 @@ module _ (p : Program) (inp : Inputs p) where
   -- LABELS BELOW A LINE
 
   module _ (L : ℕ) (label : ℕ → ℤ) (start : label 0 ≡ pos 0) (next : (l : ℕ) → l < length (p .lines) → suc l < L → label (suc l) ≡ label l +ℤ change p l) (jumps : (l : ℕ) → l < length (p .lines) → is-jump (line-at p l) ≡ true → line-at p l .operand < L → label (line-at p l .operand) ≡ label l +ℤ change p l) where
-    by-entry : (l : ℕ) → Entry p (of-module input-module) l → label l ≡ pos 0
+    by-entry : (l : ℕ) → Entry p (Module input-module) l → label l ≡ pos 0
     by-entry l (inl e) = ap label (e ∙ inp .input-first) ∙ start
     by-entry l (inr (x, o, z, e)) = absurd (false≢true (sym (inp .fine x (o .within) .3) ∙ z))
 
@@ -98,7 +100,7 @@ module _ (p : Program) (inp : Inputs p) where
     rises l m h (inl (x, e)) = let q = inp .leads l h .0 in omega arith
     rises l m h (inr (j, e)) = go (inp .leads l h .1)
       where
-        go : (is-jump (line-at p l) ≡ false) ⊎ ((l < line-at p l .operand) × (line-at p l .operand < length (p .lines)) × (part-of p (line-at p l .operand) ≡ of-module input-module)) → l < m
+        go : (is-jump (line-at p l) ≡ false) ⊎ ((l < line-at p l .operand) × (line-at p l .operand < length (p .lines)) × (unit-of p (line-at p l .operand) ≡ Module input-module)) → l < m
         go (inl f) = absurd (false≢true (sym f ∙ j))
         go (inr (a, b, c)) = omega arith
 
@@ -106,7 +108,7 @@ module _ (p : Program) (inp : Inputs p) where
     by-way l m h g (inl (x, e)) = let q : m ≡ suc l = e ∙ inp .leads l h .0 in ap label q ∙ next l h (omega arith)
     by-way l m h g (inr (j, e)) = ap label e ∙ jumps l h j (omega arith)
 
-    labelled : {path : List ℕ} {l : ℕ} → Arrives p (of-module input-module) path l → l < L → depth p path ≡ label l
+    labelled : {path : List ℕ} {l : ℕ} → Arrives p (Module input-module) path l → l < L → depth p path ≡ label l
     labelled (at-entry {m = m} e) g = sym (by-entry m e)
     labelled (passed {l = l} {m = m} a o w) g =
         let r = rises l m (o .within) w in
@@ -114,9 +116,9 @@ module _ (p : Program) (inp : Inputs p) where
 
     -- a depth that serves at a line
     abbrev Serves : ℕ → Type 0
-    Serves l = ((pops p l ≡ false) ⊎ (label l ≡ pos 0 → ⊥)) × ((pushes p l ≡ false) ⊎ (label l ≡ pos 8 → ⊥)) × ((l ≡ end p (of-module input-module) → ⊥) ⊎ (label l ≡ pos 0))
+    Serves l = ((pops p l ≡ false) ⊎ (label l ≡ pos 0 → ⊥)) × ((pushes p l ≡ false) ⊎ (label l ≡ pos 8 → ⊥)) × ((l ≡ end p (Module input-module) → ⊥) ⊎ (label l ≡ pos 0))
 
-    off-input : (l : ℕ) (d : ℤ) → d ≡ label l → Serves l → Off-balance p (of-module input-module) l d → ⊥
+    off-input : (l : ℕ) (d : ℤ) → d ≡ label l → Serves l → Off-balance p (Module input-module) l d → ⊥
     off-input l d q (inl x, s, t) (inl (o, e, z)) = false≢true (sym x ∙ e)
     off-input l d q (inr x, s, t) (inl (o, e, z)) = x (sym q ∙ z)
     off-input l d q (s, inl x, t) (inr (inl (o, e, z))) = false≢true (sym x ∙ e)
@@ -127,26 +129,26 @@ module _ (p : Program) (inp : Inputs p) where
     off-input l d q (s, t, inl x) (inr (inr (inr (e, n)))) = x e
     off-input l d q (s, t, inr x) (inr (inr (inr (e, n)))) = n (q ∙ x)
 
-    flat-elsewhere : {u : Part} {path : List ℕ} {l : ℕ} → (u ≡ of-module input-module → ⊥) → Arrives p u path l → depth p path ≡ pos 0
+    flat-elsewhere : {u : UnitId} {path : List ℕ} {l : ℕ} → (u ≡ Module input-module → ⊥) → Arrives p u path l → depth p path ≡ pos 0
     flat-elsewhere k (at-entry e) = refl
     flat-elsewhere k (passed a o w) = absurd (k (only-input o))
 
-    off-elsewhere : (u : Part) (l : ℕ) (d : ℤ) → (u ≡ of-module input-module → ⊥) → d ≡ pos 0 → Off-balance p u l d → ⊥
+    off-elsewhere : (u : UnitId) (l : ℕ) (d : ℤ) → (u ≡ Module input-module → ⊥) → d ≡ pos 0 → Off-balance p u l d → ⊥
     off-elsewhere u l d k z (inl (o, e, q)) = k (only-input o)
     off-elsewhere u l d k z (inr (inl (o, e, q))) = k (only-input o)
     off-elsewhere u l d k z (inr (inr (inl (o, e, n)))) = k (only-input o)
     off-elsewhere u l d k z (inr (inr (inr (e, n)))) = n z
 
     depth-serves : (l : ℕ) → l < L → Serves l → Bad-depth p l → ⊥
-    depth-serves l g s (two-depths {u = u} {a = a} {b = b} h x y n) = go (same-part u (of-module input-module))
+    depth-serves l g s (two-depths {u = u} {a = a} {b = b} h x y n) = go (same-part u (Module input-module))
       where
-        go : (u ≡ of-module input-module) ⊎ (u ≡ of-module input-module → ⊥) → ⊥
-        go (inl e) = n (labelled (subst (λ (v : Part). Arrives p v a l) e x) g ∙ sym (labelled (subst (λ (v : Part). Arrives p v b l) e y) g))
+        go : (u ≡ Module input-module) ⊎ (u ≡ Module input-module → ⊥) → ⊥
+        go (inl e) = n (labelled (subst (λ (v : UnitId). Arrives p v a l) e x) g ∙ sym (labelled (subst (λ (v : UnitId). Arrives p v b l) e y) g))
         go (inr k) = n (flat-elsewhere k x ∙ sym (flat-elsewhere k y))
-    depth-serves l g s (off {u = u} {a = a} h x o) = go (same-part u (of-module input-module))
+    depth-serves l g s (off {u = u} {a = a} h x o) = go (same-part u (Module input-module))
       where
-        go : (u ≡ of-module input-module) ⊎ (u ≡ of-module input-module → ⊥) → ⊥
-        go (inl e) = off-input l (depth p a) (labelled (subst (λ (v : Part). Arrives p v a l) e x) g) s (subst (λ (v : Part). Off-balance p v l (depth p a)) e o)
+        go : (u ≡ Module input-module) ⊎ (u ≡ Module input-module → ⊥) → ⊥
+        go (inl e) = off-input l (depth p a) (labelled (subst (λ (v : UnitId). Arrives p v a l) e x) g) s (subst (λ (v : UnitId). Off-balance p v l (depth p a)) e o)
         go (inr k) = off-elsewhere u l (depth p a) k (flat-elsewhere k x) o
 
     -- the refusal at L, where all before it serves
@@ -169,7 +171,7 @@ module _ (p : Program) (inp : Inputs p) where
 zeros-small : (i : ℕ) → getD (replicate 17 0) i 0 < 256
 zeros-small i = rw (zeros-at 17 i) (lit< tt)
 
-own : (p : Program) (l : ℕ) → l < length (p .lines) → part-of p l ≡ of-module input-module → Own p (of-module input-module) l
+own : (p : Program) (l : ℕ) → l < length (p .lines) → unit-of p l ≡ Module input-module → Own p (Module input-module) l
 own p l h e = record { within = h; part = e }
 
 abbrev labels : List ℕ → ℕ → ℤ
@@ -205,7 +207,7 @@ ten-serves : (l : ℕ) → l < 9 → Serves ten ten-inputs 9 ten-label refl ten-
 ten-serves = each (Serves ten ten-inputs 9 ten-label refl ten-next ten-jumps) 9 (((((((((tt, (inl refl, inl refl, inl (λ z. omega arith))), (inl refl, inr (apart (λ z. omega arith)), inl (λ z. omega arith))), (inl refl, inr (apart (λ z. omega arith)), inl (λ z. omega arith))), (inl refl, inr (apart (λ z. omega arith)), inl (λ z. omega arith))), (inl refl, inr (apart (λ z. omega arith)), inl (λ z. omega arith))), (inl refl, inr (apart (λ z. omega arith)), inl (λ z. omega arith))), (inl refl, inr (apart (λ z. omega arith)), inl (λ z. omega arith))), (inl refl, inr (apart (λ z. omega arith)), inl (λ z. omega arith))), (inl refl, inr (apart (λ z. omega arith)), inl (λ z. omega arith)))
 
 pub ten-refused : Ten-refused
-ten-refused = refusal ten ten-inputs 9 ten-label refl ten-next ten-jumps (off {u = of-module input-module} (lit< tt) (passed (passed (passed (passed (passed (passed (passed (passed (passed (at-entry {m = 0} (inl refl)) (own ten 0 (lit< tt) refl) (inl (refl, refl))) (own ten 1 (lit< tt) refl) (inl (refl, refl))) (own ten 2 (lit< tt) refl) (inl (refl, refl))) (own ten 3 (lit< tt) refl) (inl (refl, refl))) (own ten 4 (lit< tt) refl) (inl (refl, refl))) (own ten 5 (lit< tt) refl) (inl (refl, refl))) (own ten 6 (lit< tt) refl) (inl (refl, refl))) (own ten 7 (lit< tt) refl) (inl (refl, refl))) (own ten 8 (lit< tt) refl) (inl (refl, refl))) (inr (inl (own ten 9 (lit< tt) refl, refl, refl)))) ten-serves
+ten-refused = refusal ten ten-inputs 9 ten-label refl ten-next ten-jumps (off {u = Module input-module} (lit< tt) (passed (passed (passed (passed (passed (passed (passed (passed (passed (at-entry {m = 0} (inl refl)) (own ten 0 (lit< tt) refl) (inl (refl, refl))) (own ten 1 (lit< tt) refl) (inl (refl, refl))) (own ten 2 (lit< tt) refl) (inl (refl, refl))) (own ten 3 (lit< tt) refl) (inl (refl, refl))) (own ten 4 (lit< tt) refl) (inl (refl, refl))) (own ten 5 (lit< tt) refl) (inl (refl, refl))) (own ten 6 (lit< tt) refl) (inl (refl, refl))) (own ten 7 (lit< tt) refl) (inl (refl, refl))) (own ten 8 (lit< tt) refl) (inl (refl, refl))) (inr (inl (own ten 9 (lit< tt) refl, refl, refl)))) ten-serves
 
 -- LEFT
 
@@ -234,7 +236,7 @@ left-serves : (l : ℕ) → l < 3 → Serves left left-inputs 3 left-label refl 
 left-serves = each (Serves left left-inputs 3 left-label refl left-next left-jumps) 3 (((tt, (inl refl, inl refl, inl (λ z. omega arith))), (inl refl, inr (apart (λ z. omega arith)), inl (λ z. omega arith))), (inl refl, inl refl, inl (λ z. omega arith)))
 
 pub left-refused : Left-refused
-left-refused = refusal left left-inputs 3 left-label refl left-next left-jumps (off {u = of-module input-module} (lit< tt) (passed (passed (passed (at-entry {m = 0} (inl refl)) (own left 0 (lit< tt) refl) (inl (refl, refl))) (own left 1 (lit< tt) refl) (inl (refl, refl))) (own left 2 (lit< tt) refl) (inl (refl, refl))) (inr (inr (inr (refl, apart (λ z. omega arith)))))) left-serves
+left-refused = refusal left left-inputs 3 left-label refl left-next left-jumps (off {u = Module input-module} (lit< tt) (passed (passed (passed (at-entry {m = 0} (inl refl)) (own left 0 (lit< tt) refl) (inl (refl, refl))) (own left 1 (lit< tt) refl) (inl (refl, refl))) (own left 2 (lit< tt) refl) (inl (refl, refl))) (inr (inr (inr (refl, apart (λ z. omega arith)))))) left-serves
 
 -- MEETING
 
@@ -263,7 +265,7 @@ meeting-serves : (l : ℕ) → l < 4 → Serves meeting meeting-inputs 4 meeting
 meeting-serves = each (Serves meeting meeting-inputs 4 meeting-label refl meeting-next meeting-jumps) 4 ((((tt, (inl refl, inl refl, inl (λ z. omega arith))), (inl refl, inl refl, inl (λ z. omega arith))), (inl refl, inl refl, inl (λ z. omega arith))), (inl refl, inr (apart (λ z. omega arith)), inl (λ z. omega arith)))
 
 pub meeting-refused : Meeting-refused
-meeting-refused = refusal meeting meeting-inputs 4 meeting-label refl meeting-next meeting-jumps (two-depths {u = of-module input-module} (lit< tt) (passed (passed (at-entry {m = 0} (inl refl)) (own meeting 0 (lit< tt) refl) (inl (refl, refl))) (own meeting 1 (lit< tt) refl) (inr (refl, refl))) (passed (passed (passed (passed (at-entry {m = 0} (inl refl)) (own meeting 0 (lit< tt) refl) (inl (refl, refl))) (own meeting 1 (lit< tt) refl) (inl (refl, refl))) (own meeting 2 (lit< tt) refl) (inl (refl, refl))) (own meeting 3 (lit< tt) refl) (inl (refl, refl))) (apart (λ z. omega arith))) meeting-serves
+meeting-refused = refusal meeting meeting-inputs 4 meeting-label refl meeting-next meeting-jumps (two-depths {u = Module input-module} (lit< tt) (passed (passed (at-entry {m = 0} (inl refl)) (own meeting 0 (lit< tt) refl) (inl (refl, refl))) (own meeting 1 (lit< tt) refl) (inr (refl, refl))) (passed (passed (passed (passed (at-entry {m = 0} (inl refl)) (own meeting 0 (lit< tt) refl) (inl (refl, refl))) (own meeting 1 (lit< tt) refl) (inl (refl, refl))) (own meeting 2 (lit< tt) refl) (inl (refl, refl))) (own meeting 3 (lit< tt) refl) (inl (refl, refl))) (apart (λ z. omega arith))) meeting-serves
 
 -- NINE
 
@@ -289,11 +291,11 @@ nine-serves : (l : ℕ) → l < 19 → Serves nine nine-inputs 19 nine-label ref
 nine-serves = each (Serves nine nine-inputs 19 nine-label refl nine-next nine-jumps) 19 (((((((((((((((((((tt, (inl refl, inl refl, inl (λ z. omega arith))), (inl refl, inr (apart (λ z. omega arith)), inl (λ z. omega arith))), (inl refl, inr (apart (λ z. omega arith)), inl (λ z. omega arith))), (inl refl, inr (apart (λ z. omega arith)), inl (λ z. omega arith))), (inl refl, inr (apart (λ z. omega arith)), inl (λ z. omega arith))), (inl refl, inr (apart (λ z. omega arith)), inl (λ z. omega arith))), (inl refl, inr (apart (λ z. omega arith)), inl (λ z. omega arith))), (inl refl, inr (apart (λ z. omega arith)), inl (λ z. omega arith))), (inl refl, inr (apart (λ z. omega arith)), inl (λ z. omega arith))), (inr (apart (λ z. omega arith)), inl refl, inl (λ z. omega arith))), (inr (apart (λ z. omega arith)), inl refl, inl (λ z. omega arith))), (inr (apart (λ z. omega arith)), inl refl, inl (λ z. omega arith))), (inr (apart (λ z. omega arith)), inl refl, inl (λ z. omega arith))), (inr (apart (λ z. omega arith)), inl refl, inl (λ z. omega arith))), (inr (apart (λ z. omega arith)), inl refl, inl (λ z. omega arith))), (inr (apart (λ z. omega arith)), inl refl, inl (λ z. omega arith))), (inr (apart (λ z. omega arith)), inl refl, inl (λ z. omega arith))), (inl refl, inl refl, inl (λ z. omega arith))), (inl refl, inl refl, inr refl))
 
 -- every route of nine arrives at a line up to 18
-first-low : (u : Part) → Real nine u → first nine u < 19
-first-low (of-module m) h = each (λ m. first nine (of-module m) < 19) 7 (((((((tt, lit< tt), lit< tt), lit< tt), lit< tt), lit< tt), lit< tt), lit< tt) m h
-first-low (of-mechanism k) h = absurd (omega arith)
+first-low : (u : UnitId) → Real nine u → first nine u < 19
+first-low (Module m) h = each (λ m. first nine (Module m) < 19) 7 (((((((tt, lit< tt), lit< tt), lit< tt), lit< tt), lit< tt), lit< tt), lit< tt) m h
+first-low (Mechanism k) h = absurd (omega arith)
 
-arrives-low : {u : Part} {path : List ℕ} {l : ℕ} → Arrives nine u path l → Real nine u → l < 19
+arrives-low : {u : UnitId} {path : List ℕ} {l : ℕ} → Arrives nine u path l → Real nine u → l < 19
 arrives-low {u} (at-entry (inl e)) h = let q = first-low u h in omega arith
 arrives-low (at-entry (inr (x, o, z, e))) h = absurd (false≢true (sym (nine-inputs .fine x (o .within) .3) ∙ z))
 arrives-low (passed {l = l} a o (inl (x, e))) h = let q = nine-inputs .leads l (o .within) .0 in let w = o .within in omega arith
@@ -305,7 +307,7 @@ nine-unbroken r l b = go (low-unbroken nine nine-inputs r l b) b
     deep : (l : ℕ) → Bad-depth nine l → ⊥
     deep l d = depth-serves nine nine-inputs 19 nine-label refl nine-next nine-jumps l (at-most-end l d) (nine-serves l (at-most-end l d)) d
       where
-        low : {u : Part} {path : List ℕ} {l : ℕ} → Real nine u → Arrives nine u path l → l < 19
+        low : {u : UnitId} {path : List ℕ} {l : ℕ} → Real nine u → Arrives nine u path l → l < 19
         low h a = arrives-low a h
 
         at-most-end : (l : ℕ) → Bad-depth nine l → l < 19
@@ -329,13 +331,13 @@ nine-low : (l : ℕ) → l < 19 → nine-label l ≤ℤ pos 8
 nine-low = each (λ l. nine-label l ≤ℤ pos 8) 19 (((((((((((((((((((tt, (omega (arith, ints))), (omega (arith, ints))), (omega (arith, ints))), (omega (arith, ints))), (omega (arith, ints))), (omega (arith, ints))), (omega (arith, ints))), (omega (arith, ints))), (omega (arith, ints))), (omega (arith, ints))), (omega (arith, ints))), (omega (arith, ints))), (omega (arith, ints))), (omega (arith, ints))), (omega (arith, ints))), (omega (arith, ints))), (omega (arith, ints))), (omega (arith, ints))), (omega (arith, ints)))
 
 no-deeper : (d : ℤ) → Depth-of nine d → d ≤ℤ pos 8
-no-deeper d (u, l, a, h, r, e) = go (same-part u (of-module input-module))
+no-deeper d (u, l, a, h, r, e) = go (same-part u (Module input-module))
   where
-    go : (u ≡ of-module input-module) ⊎ (u ≡ of-module input-module → ⊥) → d ≤ℤ pos 8
-    go (inl q) = subst (λ (x : ℤ). x ≤ℤ pos 8) (sym (e ∙ labelled nine nine-inputs 19 nine-label refl nine-next nine-jumps (subst (λ (v : Part). Arrives nine v a l) q r) (arrives-low r h))) (nine-low l (arrives-low r h))
+    go : (u ≡ Module input-module) ⊎ (u ≡ Module input-module → ⊥) → d ≤ℤ pos 8
+    go (inl q) = subst (λ (x : ℤ). x ≤ℤ pos 8) (sym (e ∙ labelled nine nine-inputs 19 nine-label refl nine-next nine-jumps (subst (λ (v : UnitId). Arrives nine v a l) q r) (arrives-low r h))) (nine-low l (arrives-low r h))
     go (inr k) = subst (λ (x : ℤ). x ≤ℤ pos 8) (sym (e ∙ flat-elsewhere nine nine-inputs 19 nine-label refl nine-next nine-jumps k r)) (omega (arith, ints))
 
-nine-takes : (t n : ℕ) → t < 7 → Takes nine (of-module t) n → first nine (of-module t) + n ≤ end nine (of-module t)
+nine-takes : (t n : ℕ) → t < 7 → Takes nine (Module t) n → first nine (Module t) + n ≤ end nine (Module t)
 nine-takes t n h k = takes-bound nine (nine-inputs .shaped) (orderly nine (formed nine nine-accepts)) t n h k
 
 block-none : (n : ℕ) → Block-takes nine n → n ≡ 0
@@ -357,7 +359,7 @@ nine-accepted = (
   record {
     lines-are = refl;
     stack-bounds = no-deeper;
-    stack-attained = (of-module input-module, 9, 8 ∷ 7 ∷ 6 ∷ 5 ∷ 4 ∷ 3 ∷ 2 ∷ 1 ∷ 0 ∷ [], lit< tt, (passed (passed (passed (passed (passed (passed (passed (passed (passed (at-entry {m = 0} (inl refl)) (own nine 0 (lit< tt) refl) (inl (refl, refl))) (own nine 1 (lit< tt) refl) (inl (refl, refl))) (own nine 2 (lit< tt) refl) (inl (refl, refl))) (own nine 3 (lit< tt) refl) (inl (refl, refl))) (own nine 4 (lit< tt) refl) (inl (refl, refl))) (own nine 5 (lit< tt) refl) (inl (refl, refl))) (own nine 6 (lit< tt) refl) (inl (refl, refl))) (own nine 7 (lit< tt) refl) (inl (refl, refl))) (own nine 8 (lit< tt) refl) (inl (refl, refl))), refl);
+    stack-attained = (Module input-module, 9, 8 ∷ 7 ∷ 6 ∷ 5 ∷ 4 ∷ 3 ∷ 2 ∷ 1 ∷ 0 ∷ [], lit< tt, (passed (passed (passed (passed (passed (passed (passed (passed (passed (at-entry {m = 0} (inl refl)) (own nine 0 (lit< tt) refl) (inl (refl, refl))) (own nine 1 (lit< tt) refl) (inl (refl, refl))) (own nine 2 (lit< tt) refl) (inl (refl, refl))) (own nine 3 (lit< tt) refl) (inl (refl, refl))) (own nine 4 (lit< tt) refl) (inl (refl, refl))) (own nine 5 (lit< tt) refl) (inl (refl, refl))) (own nine 6 (lit< tt) refl) (inl (refl, refl))) (own nine 7 (lit< tt) refl) (inl (refl, refl))) (own nine 8 (lit< tt) refl) (inl (refl, refl))), refl);
     scan-is = record {
       none-above = nine-bound;
       attained = record { input = 18; block = 0; main = 0; input-takes = (17 ∷ 16 ∷ 15 ∷ 14 ∷ 13 ∷ 12 ∷ 11 ∷ 10 ∷ 9 ∷ 8 ∷ 7 ∷ 6 ∷ 5 ∷ 4 ∷ 3 ∷ 2 ∷ 1 ∷ 0 ∷ [], to-end (passed (passed (passed (passed (passed (passed (passed (passed (passed (passed (passed (passed (passed (passed (passed (passed (passed (passed (at-entry {m = 0} (inl refl)) (own nine 0 (lit< tt) refl) (inl (refl, refl))) (own nine 1 (lit< tt) refl) (inl (refl, refl))) (own nine 2 (lit< tt) refl) (inl (refl, refl))) (own nine 3 (lit< tt) refl) (inl (refl, refl))) (own nine 4 (lit< tt) refl) (inl (refl, refl))) (own nine 5 (lit< tt) refl) (inl (refl, refl))) (own nine 6 (lit< tt) refl) (inl (refl, refl))) (own nine 7 (lit< tt) refl) (inl (refl, refl))) (own nine 8 (lit< tt) refl) (inl (refl, refl))) (own nine 9 (lit< tt) refl) (inl (refl, refl))) (own nine 10 (lit< tt) refl) (inl (refl, refl))) (own nine 11 (lit< tt) refl) (inl (refl, refl))) (own nine 12 (lit< tt) refl) (inl (refl, refl))) (own nine 13 (lit< tt) refl) (inl (refl, refl))) (own nine 14 (lit< tt) refl) (inl (refl, refl))) (own nine 15 (lit< tt) refl) (inl (refl, refl))) (own nine 16 (lit< tt) refl) (inl (refl, refl))) (own nine 17 (lit< tt) refl) (inl (refl, refl))), (line (line (line (line (line (line (line (line (line (line (line (line (line (line (line (line (line (line none))))))))))))))))))); block-takes = inl refl; main-takes = ([], to-end (at-entry (inl refl)), none); adds-up = refl };

@@ -9,7 +9,9 @@ use lib.ListN.{length}
 use Rattle.std.specs.declared.option.Option.{Option}
 use Rattle.std.specs.declared.option.Option.the-variants.{Some, None}
 use Rattle.std.proofs.shelf.Tests.{ltb-true, eqb-true, and-parts}
-use Rattle.rules.specs.Program.{Program, op-at, input-module, main-module, init-module, Part, of-module, of-mechanism, part-of, Own}
+use Rattle.rules.specs.Program.{Program, op-at, input-module, main-module, init-module, unit-of, Own}
+use Rattle.rules.specs.declared.unit.UnitId.{UnitId}
+use Rattle.rules.specs.declared.unit.UnitId.the-variants.{Module, Mechanism}
 use Rattle.rules.specs.Run.{Memory, Place, at, over, Config, enter, effected, carried, Step, step, Runs, here, on, Passes}
 use Rattle.rules.specs.declared.session.Phase.{Phase}
 use Rattle.rules.specs.declared.session.Phase.the-variants.{Idle}
@@ -17,25 +19,25 @@ use Rattle.rules.specs.declared.session.Answer.the-variants.{Done}
 use Rattle.rules.specs.Session.{Machine, fresh, with-inputs, Block-part, idle, Scans, Starts}
 use Rattle.theory.specs.Gate.{gate, inputs-of, Gate-works}
 
-abbrev same-part : Part → Part → Bool
-same-part (of-module a) (of-module b) = eqb a b
-same-part (of-module a) (of-mechanism b) = false
-same-part (of-mechanism a) (of-module b) = false
-same-part (of-mechanism a) (of-mechanism b) = eqb a b
+abbrev same-part : UnitId → UnitId → Bool
+same-part (Module a) (Module b) = eqb a b
+same-part (Module a) (Mechanism b) = false
+same-part (Mechanism a) (Module b) = false
+same-part (Mechanism a) (Mechanism b) = eqb a b
 
-same-part-true : (u v : Part) → same-part u v ≡ true → u ≡ v
-same-part-true (of-module a) (of-module b) h = ap of-module (eqb-true a b h)
-same-part-true (of-module a) (of-mechanism b) h = cc
-same-part-true (of-mechanism a) (of-module b) h = cc
-same-part-true (of-mechanism a) (of-mechanism b) h = ap of-mechanism (eqb-true a b h)
+same-part-true : (u v : UnitId) → same-part u v ≡ true → u ≡ v
+same-part-true (Module a) (Module b) h = ap Module (eqb-true a b h)
+same-part-true (Module a) (Mechanism b) h = cc
+same-part-true (Mechanism a) (Module b) h = cc
+same-part-true (Mechanism a) (Mechanism b) h = ap Mechanism (eqb-true a b h)
 
-abbrev owns : Program → Part → ℕ → Bool
-owns p u l = ltb l (length (p .lines)) && same-part (part-of p l) u
+abbrev owns : Program → UnitId → ℕ → Bool
+owns p u l = ltb l (length (p .lines)) && same-part (unit-of p l) u
 
-owns-true : (p : Program) (u : Part) (l : ℕ) → owns p u l ≡ true → Own p u l
+owns-true : (p : Program) (u : UnitId) (l : ℕ) → owns p u l ≡ true → Own p u l
 owns-true p u l h =
-    let g = and-parts (ltb l (length (p .lines))) (same-part (part-of p l) u) h in
-    record { within = ltb-true l (length (p .lines)) (g .0); part = same-part-true (part-of p l) u (g .1) }
+    let g = and-parts (ltb l (length (p .lines))) (same-part (unit-of p l) u) h in
+    record { within = ltb-true l (length (p .lines)) (g .0); part = same-part-true (unit-of p l) u (g .1) }
 
 abbrev next-at : Program → Config → Place → Option Config
 next-at p c (over b) = None
@@ -69,20 +71,20 @@ abbrev result : Option Config → Config → Config
 result None c = c
 result (Some d) c = d
 
-abbrev ending : Program → Part → Memory → ℕ → Config
+abbrev ending : Program → UnitId → Memory → ℕ → Config
 ending p u m n = result (eval p n (enter p u m)) (enter p u m)
 
-pub passes : (p : Program) (u : Part) (m : Memory) (n : ℕ) (b : Bool) → eval p n (enter p u m) ≡ Some (ending p u m n) → ending p u m n .place ≡ over b → Passes p u m n b (ending p u m n .memory)
+pub passes : (p : Program) (u : UnitId) (m : Memory) (n : ℕ) (b : Bool) → eval p n (enter p u m) ≡ Some (ending p u m n) → ending p u m n .place ≡ over b → Passes p u m n b (ending p u m n .memory)
 passes p u m n b h o = record { last = ending p u m n; runs = eval-sound p n (enter p u m) (ending p u m n) h; over-at = o; memory-after = refl }
 
 abbrev started : Machine
-started = record { memory = ending gate (of-module init-module) (fresh gate) 1 .memory; phase = Idle }
+started = record { memory = ending gate (Module init-module) (fresh gate) 1 .memory; phase = Idle }
 
 abbrev fed : Machine → ℕ → Memory
-fed before b = ending gate (of-module input-module) (with-inputs (before .memory) (inputs-of b)) 0 .memory
+fed before b = ending gate (Module input-module) (with-inputs (before .memory) (inputs-of b)) 0 .memory
 
 abbrev scanned : Machine → ℕ → ℕ → Machine
-scanned before b n = record { memory = ending gate (of-module main-module) (fed before b) n .memory; phase = Idle }
+scanned before b n = record { memory = ending gate (Module main-module) (fed before b) n .memory; phase = Idle }
 
 abbrev one : Machine
 one = scanned started 1 5
@@ -94,22 +96,22 @@ abbrev three : Machine
 three = scanned two 2 7
 
 starts : Starts gate (Done Idle) started
-starts = record { steps = 1; init-pass = passes gate (of-module init-module) (fresh gate) 1 true refl refl; phase-zero = refl; answers = refl }
+starts = record { steps = 1; init-pass = passes gate (Module init-module) (fresh gate) 1 true refl refl; phase-zero = refl; answers = refl }
 
-scans : (before : Machine) (b n : ℕ) → before .phase ≡ Idle → Passes gate (of-module input-module) (with-inputs (before .memory) (inputs-of b)) 0 true (fed before b) → Passes gate (of-module main-module) (fed before b) n true (scanned before b n .memory) → Scans gate (inputs-of b) before n (scanned before b n)
+scans : (before : Machine) (b n : ℕ) → before .phase ≡ Idle → Passes gate (Module input-module) (with-inputs (before .memory) (inputs-of b)) 0 true (fed before b) → Passes gate (Module main-module) (fed before b) n true (scanned before b n .memory) → Scans gate (inputs-of b) before n (scanned before b n)
 scans before b n z i m = record { after-input = fed before b; after-block = fed before b; input-steps = 0; block-steps = 0; main-steps = n; input-pass = i; block-part = subst (λ (q : Phase). Block-part gate (fed before b) 0 (fed before b) q Idle) (sym z) (idle (inl refl) refl refl); main-pass = m; counted = omega arith }
 
-fed-by : (before : Machine) (b : ℕ) → Passes gate (of-module input-module) (with-inputs (before .memory) (inputs-of b)) 0 true (fed before b)
-fed-by before b = passes gate (of-module input-module) (with-inputs (before .memory) (inputs-of b)) 0 true refl refl
+fed-by : (before : Machine) (b : ℕ) → Passes gate (Module input-module) (with-inputs (before .memory) (inputs-of b)) 0 true (fed before b)
+fed-by before b = passes gate (Module input-module) (with-inputs (before .memory) (inputs-of b)) 0 true refl refl
 
 first-scan : Scans gate (inputs-of 1) started 5 one
-first-scan = scans started 1 5 refl (fed-by started 1) (passes gate (of-module main-module) (fed started 1) 5 true refl refl)
+first-scan = scans started 1 5 refl (fed-by started 1) (passes gate (Module main-module) (fed started 1) 5 true refl refl)
 
 second-scan : Scans gate (inputs-of 1) one 5 two
-second-scan = scans one 1 5 refl (fed-by one 1) (passes gate (of-module main-module) (fed one 1) 5 true refl refl)
+second-scan = scans one 1 5 refl (fed-by one 1) (passes gate (Module main-module) (fed one 1) 5 true refl refl)
 
 third-scan : Scans gate (inputs-of 2) two 7 three
-third-scan = scans two 2 7 refl (fed-by two 2) (passes gate (of-module main-module) (fed two 2) 7 true refl refl)
+third-scan = scans two 2 7 refl (fed-by two 2) (passes gate (Module main-module) (fed two 2) 7 true refl refl)
 
 pub gate-works : Gate-works
 gate-works = (started, one, two, three, starts, (first-scan, refl), (second-scan, refl), (third-scan, refl))

@@ -4,7 +4,9 @@ use mathlib.Core.Bool.{Bool, true, false}
 use mathlib.Core.List.{List, [], _∷_}
 use Prim.Native.Nat.{ℕ, _<_, _≤_}
 use lib.ListN.{length}
-use Rattle.rules.specs.Program.{Program, Part, of-module, Real, sequential}
+use Rattle.rules.specs.Program.{Program, Real, sequential}
+use Rattle.rules.specs.declared.unit.UnitId.{UnitId}
+use Rattle.rules.specs.declared.unit.UnitId.the-variants.{Module}
 use Rattle.rules.specs.Route.{Scan-takes}
 use Rattle.rules.specs.Verdict.{Formed, Accepted, Certified}
 use Rattle.rules.specs.Run.{Memory, Config, enter, Step, Runs, Passes}
@@ -26,7 +28,7 @@ Runs-alike = (p : Program) (c d e : Config) (n : ℕ) → Runs p c n d → Runs 
 -- a pass has one length, one ending and one memory after it
 abbrev pub Passes-alike : Type 0
 Passes-alike =
-    (p : Program) (u : Part) (m : Memory) (n₁ n₂ : ℕ) (b₁ b₂ : Bool) (m₁ m₂ : Memory) →
+    (p : Program) (u : UnitId) (m : Memory) (n₁ n₂ : ℕ) (b₁ b₂ : Bool) (m₁ m₂ : Memory) →
     Passes p u m n₁ b₁ m₁ → Passes p u m n₂ b₂ m₂ → (n₁ ≡ n₂) × (b₁ ≡ b₂) × (m₁ ≡ m₂)
 
 -- a call has one answer and one machine after it
@@ -39,7 +41,7 @@ Outcomes-alike =
 abbrev pub Runs-are-routes : Type 0
 Runs-are-routes =
     (p : Program) (t : ℕ) (m : Memory) → Formed p → t < length (p .lengths) → Fitting p m →
-    (k : ℕ) (c : Config) → Runs p (enter p (of-module t) m) k c → Routed p t k (c .place) (c .registers .cells)
+    (k : ℕ) (c : Config) → Runs p (enter p (Module t) m) k c → Routed p t k (c .place) (c .registers .cells)
 
 -- the steps of a scan are those of a scan's routes
 abbrev pub Scans-are-routes : Type 0
@@ -51,13 +53,13 @@ Scans-are-routes =
 abbrev pub Passes-are-ruled : Type 0
 Passes-are-ruled =
     (p : Program) (lines stack scan : ℕ) → Accepted p → Certified p lines stack scan →
-    (u : Part) (m : Memory) → Real p u → Fitting p m → Ruled p stack u m
+    (u : UnitId) (m : Memory) → Real p u → Fitting p m → Ruled p stack u m
 
 -- a pass of a module comes to its end, and that of one which is not sequential at the module's end
 abbrev pub Passes-end : Type 0
 Passes-end =
     (p : Program) (t : ℕ) (m : Memory) → Accepted p → t < length (p .lengths) → Fitting p m →
-    (n : ℕ) × (whole : Bool) × (m′ : Memory) × Passes p (of-module t) m n whole m′ × (n ≤ length (p .lines)) × (sequential (of-module t) ≡ false → whole ≡ true)
+    (n : ℕ) × (whole : Bool) × (m′ : Memory) × Passes p (Module t) m n whole m′ × (n ≤ length (p .lines)) × (sequential (Module t) ≡ false → whole ≡ true)
 
 -- a scan has its steps and its machine after it
 abbrev pub Scans-exist : Type 0
