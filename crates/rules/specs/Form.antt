@@ -1,6 +1,7 @@
 -- The rules of the shape and of the text that need no route: when they are kept, and at which line they are broken. Assumes nothing.
 use mathlib.Core.Path.{_≡_}
 use mathlib.Core.Bool.{true, false}
+use mathlib.Core.List.{List}
 use mathlib.Core.Logic.{_⊎_}
 use Prim.Native.Nat.{ℕ, _+_, _*_, _<_, _≤_}
 use lib.ListN.{length, getD}
@@ -21,14 +22,22 @@ records p mechanism-section = length (p .activation)
 records p module-section = length (p .lengths)
 records p line-section = length (p .lines)
 
+-- a count in the range of its section
+abbrev pub In-range : Section → ℕ → Type 0
+In-range s n = (least-count s ≤ n) × (n ≤ most-count s)
+
+-- activation bits that stand inside so many data bytes
+abbrev pub Bits-inside : List ℕ → ℕ → Type 0
+Bits-inside activation d = (k : ℕ) → k < length activation → getD activation k 0 < 8 * d
+
 -- the shape of a program, as the rules of the image leave it
 pub record Shaped (p : Program) : Type 0 where
   -- each section has as many records as its range allows
-  pub counts : (s : Section) → (least-count s ≤ records p s) × (records p s ≤ most-count s)
+  pub counts : (s : Section) → In-range s (records p s)
   -- the data are bytes
   pub bytes-small : Bytes (p .initial)
   -- the activation bits stand inside the data
-  pub activation-inside : (k : ℕ) → k < length (p .activation) → getD (p .activation) k 0 < 8 * length (p .initial)
+  pub activation-inside : Bits-inside (p .activation) (length (p .initial))
   -- the modules have all the lines
   pub all-lines : total (p .lengths) ≡ length (p .lines)
 

@@ -1,0 +1,2 @@
+// An image of a program, from its bytes to the program that it holds.
+pub mod program;

@@ -1,0 +1,2 @@
+// The text of a program, checked line by line.
+pub mod formed;

@@ -1,0 +1,2 @@
+// The verdict on a program: whether it is accepted, and its certificate.
+pub mod accepted;
