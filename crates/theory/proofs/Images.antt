@@ -2,20 +2,20 @@
 use mathlib.Core.Path.{_≡_, refl, sym, ap, ap₂, subst, _∙_}
 use mathlib.Core.List.{List, [], _∷_, _++_}
 use mathlib.Core.Logic.{_⊎_, inl, inr}
-use Prim.Native.Nat.{ℕ, zero, suc, _+_, _*_, _<_, _≤_}
+use Prim.Native.Nat.{ℕ, zero, suc, _+_, _*_, _/_, _%_, _<_, _≤_}
 use native.Mathlib.Omega.{arith}
 use lib.Dec.{lit<}
 use lib.ListN.{length, getD, take, drop}
 use Rattle.std.proofs.shelf.Tests.{cases-eq, cases-lt, cases-order}
-use Rattle.std.proofs.shelf.Lists.{getD-append-add, take-at, length-append, length-drop, length-take-le}
+use Rattle.std.proofs.shelf.Lists.{getD-append-add, take-at, length-append, length-drop, length-take-le, drop-more, drop-all, drop-drop, take-append-drop}
 use Rattle.rules.specs.declared.line.Line.{Line}
 use Rattle.rules.specs.Number.{Bytes}
 use Rattle.rules.specs.Program.{Program, total}
-use Rattle.rules.specs.Image.{Section, data-section, mechanism-section, module-section, line-section, record-size, least-count, most-count, pair-at, count-place, count, section-place, pairs-from, line-from, lines-from, program-of, two-bytes, pairs-bytes, lines-bytes, image-of, Image-breaks, by-short-count, by-short-section, by-count, by-activation, by-left-over, by-total, Image-refused, Image-sound}
+use Rattle.rules.specs.Image.{Section, data-section, mechanism-section, module-section, line-section, record-size, least-count, most-count, pair-at, count-place, count, section-place, pairs-from, line-from, lines-from, program-of, two-bytes, pairs-bytes, lines-bytes, image-of, image-end, Image-breaks, by-short-count, by-short-section, by-count, by-activation, by-left-over, by-total, Image-refused, Image-sound}
 use Rattle.rules.specs.Form.{records, Shaped}
 use Rattle.rules.specs.Verdict.{Breaks, Text-refused}
 use Rattle.rules.specs.Load.{by-image, by-text}
-use Rattle.theory.specs.Images.{Images-hold, Images-are-sound, Sound-images-are-shaped, Loads-are-accepted, Refusals-alike, Refused-not-loaded}
+use Rattle.theory.specs.Images.{Images-hold, Images-are-sound, Sound-images-are-shaped, Sound-images-are-encodings, Loads-are-accepted, Refusals-alike, Refused-not-loaded}
 use Rattle.theory.proofs.Orderly.{sure}
 
 -- READING BEHIND A BEGINNING
@@ -301,6 +301,86 @@ module _ (image : List ℕ) (small : Bytes image) (sound : Image-sound image) wh
 
 pub sound-images-are-shaped : Sound-images-are-shaped
 sound-images-are-shaped image small sound = shape image small sound
+
+-- THE PROGRAM OF A SOUND IMAGE, WRITTEN AGAIN
+
+-- what is read from a place on and written again, before the rest of the image, is the image from that place on
+module _ (image : List ℕ) (small : Bytes image) where
+  pair-again : (a : ℕ) → a + 2 ≤ length image → two-bytes (pair-at image a) ++ drop (a + 2) image ≡ drop a image
+  pair-again a h =
+      let lo = small a in
+      let e₁ : pair-at image a % 256 ≡ getD image a 0 = omega arith in
+      let e₂ : pair-at image a / 256 ≡ getD image (a + 1) 0 = omega arith in
+      let d₁ = drop-more image a 0 (omega arith) in
+      let d₂ = drop-more image (a + 1) 0 (omega arith) in
+      let q : a + 2 ≡ a + 1 + 1 = omega arith in
+      ap₂ (λ (x y : ℕ). x ∷ y ∷ drop (a + 2) image) e₁ e₂
+      ∙ ap (λ (n : ℕ). getD image a 0 ∷ getD image (a + 1) 0 ∷ drop n image) q
+      ∙ ap (λ (ys : List ℕ). getD image a 0 ∷ ys) (sym d₂) ∙ sym d₁
+
+  pairs-again : (n a : ℕ) → a + 2 * n ≤ length image → pairs-bytes (pairs-from image a n) ++ drop (a + 2 * n) image ≡ drop a image
+  pairs-again zero a h = let q : a + 2 * 0 ≡ a = omega arith in ap (λ (k : ℕ). drop k image) q
+  pairs-again (suc n) a h =
+      let q : a + 2 * suc n ≡ a + 2 + 2 * n = omega arith in
+      ap (λ (k : ℕ). two-bytes (pair-at image a) ++ (pairs-bytes (pairs-from image (a + 2) n) ++ drop k image)) q
+      ∙ ap (λ (ys : List ℕ). two-bytes (pair-at image a) ++ ys) (pairs-again n (a + 2) (omega arith))
+      ∙ pair-again a (omega arith)
+
+  line-again : (a : ℕ) → a + 4 ≤ length image → getD image a 0 ∷ getD image (a + 1) 0 ∷ (two-bytes (pair-at image (a + 2)) ++ drop (a + 4) image) ≡ drop a image
+  line-again a h =
+      let d₁ = drop-more image a 0 (omega arith) in
+      let d₂ = drop-more image (a + 1) 0 (omega arith) in
+      let q₁ : a + 1 + 1 ≡ a + 2 = omega arith in
+      let q₂ : a + 4 ≡ a + 2 + 2 = omega arith in
+      ap (λ (n : ℕ). getD image a 0 ∷ getD image (a + 1) 0 ∷ (two-bytes (pair-at image (a + 2)) ++ drop n image)) q₂
+      ∙ ap (λ (ys : List ℕ). getD image a 0 ∷ getD image (a + 1) 0 ∷ ys) (pair-again (a + 2) (omega arith) ∙ ap (λ (n : ℕ). drop n image) (sym q₁))
+      ∙ ap (λ (ys : List ℕ). getD image a 0 ∷ ys) (sym d₂) ∙ sym d₁
+
+  lines-again : (n a : ℕ) → a + 4 * n ≤ length image → lines-bytes (lines-from image a n) ++ drop (a + 4 * n) image ≡ drop a image
+  lines-again zero a h = let q : a + 4 * 0 ≡ a = omega arith in ap (λ (k : ℕ). drop k image) q
+  lines-again (suc n) a h =
+      let q : a + 4 * suc n ≡ a + 4 + 4 * n = omega arith in
+      ap (λ (k : ℕ). getD image a 0 ∷ getD image (a + 1) 0 ∷ (two-bytes (pair-at image (a + 2)) ++ (lines-bytes (lines-from image (a + 4) n) ++ drop k image))) q
+      ∙ ap (λ (ys : List ℕ). getD image a 0 ∷ getD image (a + 1) 0 ∷ (two-bytes (pair-at image (a + 2)) ++ ys)) (lines-again n (a + 4) (omega arith))
+      ∙ line-again a (omega arith)
+
+module _ (image : List ℕ) (small : Bytes image) (sound : Image-sound image) where
+  section-held : (s : Section) → section-place image s + record-size s * count image s ≤ length image
+  section-held s = elim (cases-lt (length image) (section-place image s + record-size s * count image s)) [ inl h ↦ absurd (sound 1 (section-place image s) (by-short-section s refl refl h)) | inr h ↦ h ]
+
+  none-over : length image ≤ image-end image
+  none-over = elim (cases-lt (image-end image) (length image)) [ inl h ↦ absurd (sound 4 (image-end image) (by-left-over refl refl h)) | inr h ↦ h ]
+
+  -- the count of a section, written again, stands before the section
+  count-again : (s : Section) → two-bytes (records (program-of image) s) ++ drop (section-place image s) image ≡ drop (count-place image s) image
+  count-again s =
+      let h = section-held s in
+      ap (λ (n : ℕ). two-bytes n ++ drop (section-place image s) image) (read image small sound s) ∙ pair-again image small (count-place image s) (omega arith)
+
+  lines-part : lines-bytes (program-of image .lines) ≡ drop (section-place image line-section) image
+  lines-part =
+      sym (append-nothing (lines-bytes (program-of image .lines)))
+      ∙ ap (λ (ys : List ℕ). lines-bytes (program-of image .lines) ++ ys) (sym (drop-all (section-place image line-section + 4 * count image line-section) image none-over))
+      ∙ lines-again image small (count image line-section) (section-place image line-section) (section-held line-section)
+
+  again : image-of (program-of image) ≡ image
+  again =
+      let p = program-of image in
+      let q : 2 + count image data-section ≡ count-place image mechanism-section = omega arith in
+      let b : p .initial ++ drop (count-place image mechanism-section) image ≡ drop 2 image =
+            ap (λ (n : ℕ). p .initial ++ drop n image) (sym q) ∙ ap (λ (ys : List ℕ). p .initial ++ ys) (sym (drop-drop (count image data-section) 2 image)) ∙ take-append-drop (count image data-section) (drop 2 image) in
+      ap (λ (ys : List ℕ). two-bytes (length (p .initial)) ++ (p .initial ++ (two-bytes (length (p .activation)) ++ (pairs-bytes (p .activation) ++ (two-bytes (length (p .lengths)) ++ (pairs-bytes (p .lengths) ++ (two-bytes (length (p .lines)) ++ ys))))))) lines-part
+      ∙ ap (λ (ys : List ℕ). two-bytes (length (p .initial)) ++ (p .initial ++ (two-bytes (length (p .activation)) ++ (pairs-bytes (p .activation) ++ (two-bytes (length (p .lengths)) ++ (pairs-bytes (p .lengths) ++ ys)))))) (count-again line-section)
+      ∙ ap (λ (ys : List ℕ). two-bytes (length (p .initial)) ++ (p .initial ++ (two-bytes (length (p .activation)) ++ (pairs-bytes (p .activation) ++ (two-bytes (length (p .lengths)) ++ ys))))) (pairs-again image small (count image module-section) (section-place image module-section) (section-held module-section))
+      ∙ ap (λ (ys : List ℕ). two-bytes (length (p .initial)) ++ (p .initial ++ (two-bytes (length (p .activation)) ++ (pairs-bytes (p .activation) ++ ys)))) (count-again module-section)
+      ∙ ap (λ (ys : List ℕ). two-bytes (length (p .initial)) ++ (p .initial ++ (two-bytes (length (p .activation)) ++ ys))) (pairs-again image small (count image mechanism-section) (section-place image mechanism-section) (section-held mechanism-section))
+      ∙ ap (λ (ys : List ℕ). two-bytes (length (p .initial)) ++ (p .initial ++ ys)) (count-again mechanism-section)
+      ∙ ap (λ (ys : List ℕ). two-bytes (length (p .initial)) ++ ys) b
+      ∙ count-again data-section
+
+pub sound-images-are-encodings : Sound-images-are-encodings
+sound-images-are-encodings image small =
+    (λ sound. (program-of image, shape image small sound, sym (again image small sound)), λ p sh e. subst Image-sound (sym e) (images-are-sound p sh))
 
 pub loads-are-accepted : Loads-are-accepted
 loads-are-accepted image p small h = record { shaped = subst Shaped (sym (h .program)) (shape image small (h .sound)); unbroken = h .unbroken }

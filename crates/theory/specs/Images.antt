@@ -22,6 +22,13 @@ Images-are-sound = (p : Program) → Shaped p → Image-sound (image-of p)
 abbrev pub Sound-images-are-shaped : Type 0
 Sound-images-are-shaped = (image : List ℕ) → Bytes image → Image-sound image → Shaped (program-of image)
 
+-- an image of bytes breaks no rule of the image exactly if it is the image of a program that has its shape: whose counts are in range, whose
+-- activation bits are inside the data and whose lengths add up
+abbrev pub Sound-images-are-encodings : Type 0
+Sound-images-are-encodings =
+    (image : List ℕ) → Bytes image →
+    (Image-sound image → (p : Program) × Shaped p × (image ≡ image-of p)) × ((p : Program) → Shaped p → image ≡ image-of p → Image-sound image)
+
 -- what is loaded is accepted
 abbrev pub Loads-are-accepted : Type 0
 Loads-are-accepted = (image : List ℕ) (p : Program) → Bytes image → Loads image p → Accepted p
