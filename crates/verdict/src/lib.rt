@@ -1,2 +1,3 @@
 // The verdict on a program: whether it is accepted, and its certificate.
 pub mod accepted;
+pub mod null;

@@ -1,0 +1,2 @@
+pub mod NullTables
+pub mod Scanning
