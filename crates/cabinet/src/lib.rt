@@ -7,6 +7,8 @@ ghost use Rattle.cabinet.specs.Ports.{answer-read, answer-write, written};
 pub mod eight;
 pub mod fault;
 pub mod patch;
+pub mod row;
+pub mod stimulus;
 
 use fault::PortFault;
 

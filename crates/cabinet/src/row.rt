@@ -1,0 +1,9 @@
+// The rows of a stimulus cabinet.
+
+/// A row: from this scan number on, the input of this port is this byte.
+#[derive(Clone, Copy, Debug, PartialEq, Eq)]
+pub struct Row {
+    pub scan: u32,
+    pub port: u8,
+    pub byte: u8,
+}
