@@ -7,6 +7,7 @@ ghost use Rattle.cabinet.specs.Ports.{answer-read, answer-write, written};
 pub mod eight;
 pub mod fault;
 pub mod patch;
+pub mod ports;
 pub mod row;
 pub mod stimulus;
 
