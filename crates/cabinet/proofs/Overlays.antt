@@ -11,9 +11,10 @@ module _ (xs ys : List ℕ) where
   abbrev pub over : ℕ → List ℕ
   over i = take i xs ++ drop i ys
 
-  pub over-more : (bytes : List ℕ) (i x : ℕ) → i < length xs → i < length ys → bytes ≡ over i → x ≡ getD xs i 0 → set bytes i x ≡ over (i + 1)
-  over-more bytes i x h k e r =
-      ap (λ l. set l i x) (e ∙ ap (λ l. take i xs ++ l) (drop-more ys i 0 k))
+  -- one byte more
+  pub over-more : (bytes after : List ℕ) (i x : ℕ) → after ≡ set bytes i x → i < length xs → i < length ys → bytes ≡ over i → x ≡ getD xs i 0 → after ≡ over (i + 1)
+  over-more bytes after i x w h k e r =
+      w ∙ ap (λ l. set l i x) (e ∙ ap (λ l. take i xs ++ l) (drop-more ys i 0 k))
       ∙ set-at (take i xs) (getD ys i 0) (drop (i + 1) ys) x i (length-take-le i xs (omega arith))
       ∙ ap (λ b. take i xs ++ (b ∷ drop (i + 1) ys)) r
       ∙ sym (append-assoc (take i xs) (getD xs i 0 ∷ []) (drop (i + 1) ys))

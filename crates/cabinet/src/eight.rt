@@ -39,11 +39,10 @@ impl EightBytes {
         ensures bytes { λ _. ⌜ now (self .exit) .bytes ≡ written (now (self .entry) .bytes) port byte ⌝ }
         ensures refused { λ _. ⌜ (7 < port → now (self .exit) ≡ now (self .entry)) ⌝ }
     {
-        if port < 8 {
-            self.bytes[port as usize] = byte;
-            Ok(())
-        } else {
-            Err(PortFault::PortAboveSeven)
+        if port > 7 {
+            return Err(PortFault::PortAboveSeven);
         }
+        self.bytes[port as usize] = byte;
+        Ok(())
     }
 }

@@ -1,5 +1,6 @@
 // A cabinet whose advance copies each terminal to the input of that number.
 ghost use mathlib.Core.Path.{_≡_};
+ghost use Rattle.cabinet.specs.Meanings.{patch-meaning};
 ghost use Rattle.cabinet.specs.Ports.{zeros};
 use crate::Cabinet;
 use crate::eight::EightBytes;
@@ -26,13 +27,7 @@ impl Patch {
 }
 
 pub impl Cabinet for Patch as PatchCabinet {
-    ghost meaning = { record {
-      inputs = λ p. p .inputs .bytes;
-      terminals = λ p. p .terminals .bytes;
-      coming = λ p. p .terminals .bytes;
-      keeps = λ p q. Unit {0};
-      moves = λ p q. Unit {0};
-    } };
+    ghost meaning = { patch-meaning };
 
     fn input(&self, port: u8) -> Result<u8, PortFault> {
         self.inputs.read(port)

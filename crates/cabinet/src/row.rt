@@ -1,7 +1,7 @@
 // The rows of a stimulus cabinet.
 
 /// A row: from this scan number on, the input of this port is this byte.
-#[derive(Clone, Copy, Debug, PartialEq, Eq)]
+#[derive(Clone, Copy)]
 pub struct Row {
     pub scan: u32,
     pub port: u8,

@@ -3,8 +3,9 @@ ghost use mathlib.Core.Path.{_≡_};
 ghost use Prim.Native.Nat.{_+_};
 ghost use lib.ListN.{drop};
 ghost use Rattle.std.specs.Of.Vec.{vec-items};
+ghost use Rattle.cabinet.specs.Meanings.{stimulus-meaning};
 ghost use Rattle.cabinet.specs.Ports.{zeros};
-ghost use Rattle.cabinet.specs.Rows.{applied, due, next-number};
+ghost use Rattle.cabinet.specs.Rows.{applied, due};
 use crate::Cabinet;
 use crate::eight::EightBytes;
 use crate::fault::PortFault;
@@ -57,13 +58,7 @@ impl Stimulus {
 }
 
 pub impl Cabinet for Stimulus as StimulusCabinet {
-    ghost meaning = { record {
-      inputs = λ s. s .inputs .bytes;
-      terminals = λ s. s .terminals .bytes;
-      coming = λ s. applied (next-number (s .number)) (drop (s .cursor) (vec-items (s .rows))) (s .inputs .bytes);
-      keeps = λ s t. (t .rows ≡ s .rows) × (t .cursor ≡ s .cursor) × (t .number ≡ s .number);
-      moves = λ s t. (t .rows ≡ s .rows) × (t .cursor ≡ s .cursor + due (next-number (s .number)) (drop (s .cursor) (vec-items (s .rows)))) × (t .number ≡ next-number (s .number));
-    } };
+    ghost meaning = { stimulus-meaning };
 
     fn input(&self, port: u8) -> Result<u8, PortFault> {
         self.inputs.read(port)

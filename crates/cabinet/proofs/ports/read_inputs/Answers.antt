@@ -1,3 +1,4 @@
+use mathlib.Core.Path.{refl}
 use native.Mathlib.Omega.{arith}
 use Rattle.cabinet.proofs.Overlays.{over-more, over-all}
 use Rattle.cabinet.proofs.ports.read_inputs.Needs as need
@@ -5,7 +6,7 @@ use Rattle.cabinet.proofs.ports.read_inputs.Needs as need
 pub loop-port-again : need.loop-port-again
 loop-port-again g c =
     let eight = g .C·Cabinet·met .lawful .eight-inputs (c .args .cabinet .now) .eight in
-    over-more _ _ _ _ _ (omega arith) (omega arith) (c .loop-port .inv) (c .input-at .ensures)
+    over-more _ _ _ _ _ _ refl (omega arith) (omega arith) (c .loop-port .inv) (c .input-at .ensures)
 
 pub returns : need.returns
 returns g c = over-all _ _ _ (c .loop-port .port) (omega arith) (g .C·Cabinet·met .lawful .eight-inputs (c .args .cabinet .now) .eight) (c .loop-port .inv)

@@ -13,7 +13,7 @@ loop-port-again g c =
     let so-far = c .loop-port .inv in
     let sent = c .write-at .ensures in
     record {
-      terminals-are = sent .terminals-are ∙ over-more _ _ _ _ _ (omega arith) (omega arith) (so-far .terminals-are) (getD-outputs (c .args .bytes .now) _ (c .loop-port-test .taken));
+      terminals-are = over-more _ _ _ _ _ _ (sent .terminals-are) (omega arith) (omega arith) (so-far .terminals-are) (getD-outputs (c .args .bytes .now) _ (c .loop-port-test .taken));
       inputs-stay = sent .inputs-stay ∙ so-far .inputs-stay;
       rest-stays = g .C·Cabinet·met .lawful .keeps-on _ _ _ (so-far .rest-stays) (sent .rest-stays);
     }
