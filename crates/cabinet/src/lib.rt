@@ -9,6 +9,7 @@ pub mod fault;
 pub mod patch;
 pub mod ports;
 pub mod row;
+pub mod serving;
 pub mod stimulus;
 
 use fault::PortFault;

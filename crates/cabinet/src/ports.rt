@@ -3,6 +3,7 @@ ghost use mathlib.Core.Path.{_≡_};
 ghost use mathlib.Core.List.{_++_};
 ghost use Prim.Native.Nat.{_≤_, _<_};
 ghost use lib.ListN.{length, getD, set, take, drop};
+ghost use Rattle.std.specs.Of.Vec.{vec-items, vec-len};
 ghost use Rattle.rules.specs.Cabinet.{Sent};
 use crate::Cabinet;
 
@@ -37,9 +38,10 @@ fn write_at<C: Cabinet>(cabinet: &mut C, port: u8, byte: u8)
 }
 
 /// Reads the eight inputs into the data bytes 0 to 7.
-pub fn read_inputs<C: Cabinet>(cabinet: &C, bytes: &mut [u8])
-    requires { ⌜ 8 ≤ length (now bytes) ⌝ }
-    ensures { λ _. ⌜ now (bytes .exit) ≡ C·Cabinet .meaning .inputs (now (cabinet .entry)) ++ drop 8 (now (bytes .entry)) ⌝ }
+pub fn read_inputs<C: Cabinet>(cabinet: &C, bytes: &mut Vec<u8>)
+    requires { ⌜ 8 ≤ vec-len (now bytes) ⌝ }
+    ensures items { λ _. ⌜ vec-items (now (bytes .exit)) ≡ C·Cabinet .meaning .inputs (now (cabinet .entry)) ++ drop 8 (vec-items (now (bytes .entry))) ⌝ }
+    ensures len { λ _. ⌜ vec-len (now (bytes .exit)) ≡ vec-len (now (bytes .entry)) ⌝ }
 {
     for port in 0..8u8 {
         bytes[port as usize] = input_at(cabinet, port);

@@ -27,8 +27,11 @@ fn apply(rows: &[Row], cursor: usize, number: u32, inputs: &mut EightBytes) -> u
     ensures cursor { λ r. ⌜ r ≡ cursor + due number (drop cursor (now (rows .entry))) ⌝ }
 {
     let mut at = cursor;
-    while at < rows.len() && rows[at].scan <= number {
+    while at < rows.len() {
         let row = rows[at];
+        if row.scan > number {
+            break;
+        }
         let _ = inputs.write(row.port, row.byte);
         at += 1;
     }

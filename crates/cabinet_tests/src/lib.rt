@@ -37,21 +37,29 @@ mod tests {
     }
 
     #[test]
-    fn patch_copies_terminals() -> Result<(), Fail> {
+    fn patch_copies_terminals(rt: LibcRuntime) -> Result<(), Fail> {
         let mut patch = Patch::new();
-        let mut bytes = [0, 0, 0, 0, 0, 0, 0, 0, 1, 2, 3, 4, 5, 6, 7, 8, 9];
-        send(&mut patch, &bytes);
+        let mut bytes = [9, 0, 0, 0, 0, 0, 0, 9, 1, 2, 3, 4, 5, 6, 7, 8, 9].to_vec(rt.alloc())?;
+        check(bytes.len() == 17)?;
+        send(&mut patch, bytes.as_slice());
         read_inputs(&patch, &mut bytes);
-        check_eq(bytes, [0, 0, 0, 0, 0, 0, 0, 0, 1, 2, 3, 4, 5, 6, 7, 8, 9])?;
+        check(bytes.as_slice() == &[0, 0, 0, 0, 0, 0, 0, 0, 1, 2, 3, 4, 5, 6, 7, 8, 9])?;
         patch.advance();
         read_inputs(&patch, &mut bytes);
-        check_eq(bytes, [1, 2, 3, 4, 5, 6, 7, 8, 1, 2, 3, 4, 5, 6, 7, 8, 9])?;
+        check(bytes.as_slice() == &[1, 2, 3, 4, 5, 6, 7, 8, 1, 2, 3, 4, 5, 6, 7, 8, 9])?;
         check_eq(terminals(&patch), [1, 2, 3, 4, 5, 6, 7, 8])
     }
 
     #[test]
     fn rows_are_applied_by_number(rt: LibcRuntime) -> Result<(), Fail> {
-        let table = [(0, 0, 11), (0, 8, 12), (0, 7, 13), (2, 0, 14), (2, 0, 15), (4, 7, 16)];
+        let table = [
+            (0, 0, 11),
+            (0, 8, 12),
+            (0, 7, 13),
+            (2, 0, 14),
+            (2, 0, 15),
+            (4, 7, 16),
+        ];
         let mut rows = Vec::new(rt.alloc());
         for (scan, port, byte) in table {
             rows.push(Row { scan, port, byte })?;

@@ -8,18 +8,18 @@ use Rattle.cabinet.proofs.stimulus.apply.Needs as need
 
 pub loop-at-again : need.loop-at-again
 loop-at-again c =
-    let count = due-more _ _ _ _ (c .loop-at-test .taken) (c .if-rows-at .taken) in
+    let count = due-more _ _ _ _ (c .loop-at-test .taken) (c .index-rows-at .is) (c .if-row-number .left) in
     let so-far = c .loop-at .inv .1 in (
-      ap (applied (c .args .number) (drop _ (c .args .rows .now))) (c .write .ensures .bytes) ∙ sym (applied-more _ _ _ _ (c .loop-at-test .taken) (c .loop-at .inputs .bytes) (c .if-rows-at .taken)) ∙ c .loop-at .inv .0,
+      ap (applied (c .args .number) (drop _ (c .args .rows .now))) (c .write .ensures .bytes) ∙ sym (applied-more _ _ _ _ (c .loop-at-test .taken) (c .index-rows-at .is) (c .loop-at .inputs .bytes) (c .if-row-number .left)) ∙ c .loop-at .inv .0,
       omega (arith, count, so-far),
     )
 
-pub returns-else-rows-at : need.returns-else-rows-at
-returns-else-rows-at c =
-    let count = due-stop _ _ _ _ (c .loop-at-test .taken) (c .if-rows-at .left) in
+pub returns-then-row-number : need.returns-then-row-number
+returns-then-row-number c =
+    let count = due-stop _ _ _ _ (c .loop-at-test .taken) (c .index-rows-at .is) (c .if-row-number .taken) in
     let so-far = c .loop-at .inv .1 in
     record {
-      inputs = sym (applied-stop _ _ _ _ (c .loop-at-test .taken) _ (c .if-rows-at .left)) ∙ c .loop-at .inv .0;
+      inputs = sym (applied-stop _ _ _ _ (c .loop-at-test .taken) (c .index-rows-at .is) _ (c .if-row-number .taken)) ∙ c .loop-at .inv .0;
       cursor = omega (arith, count, so-far);
     }
 
