@@ -1,0 +1,3 @@
+pub mod Ports
+pub mod Rows
+pub mod Meanings
