@@ -1,2 +1,5 @@
 // An image of a program, from its bytes to the program that it holds.
+pub mod fault;
+pub mod image;
 pub mod program;
+pub mod sections;
