@@ -126,3 +126,97 @@ module _ (image : List ℕ) where
           omega arith
       go (by-left-over e q h) low high = let x = ends s in omega arith
       go (by-total e q h) low high = omega arith
+
+  -- a section that is there, and whose activation bits, if it has any, stand inside the data, is passed
+  pub clear-section : (s : Section) → Clear image (section-place image s) → at s + 2 + size s ≤ len → (s ≡ mechanism-section → Bits-held image (count image mechanism-section)) → Clear image (at s + 2 + size s)
+  clear-section s clear held bits = clear-within s (size s) (omega arith) clear held (λ e k h. bits e k (let x = ap size e in omega arith))
+
+  -- WHAT THE FIRST BREACH EARNS
+
+  -- what is broken where the image is clear up to, by the lowest rule there, is the refusal
+  first-breach : (rule place : ℕ) → rule < 5 → Clear image place → Image-breaks image rule place → ((r : ℕ) → Image-breaks image r place → rule ≤ r) → Image-refused image rule place
+  first-breach rule place small clear broken lowest = record {
+    broken = broken;
+    earliest = λ r l h b. (small, elim (cases-lt place l) [ inl x ↦ inl x | inr x ↦ (let y = clear r l h b in let e : place ≡ l = omega arith in inr (e, lowest r (subst (Image-breaks image r) (sym e) b))) ]);
+  }
+
+  numbered : (r l : ℕ) → Image-breaks image r l → 1 ≤ r
+  numbered r l (by-short-count t e q h) = omega arith
+  numbered r l (by-short-section t e q h) = omega arith
+  numbered r l (by-count t e q h) = omega arith
+  numbered r l (by-activation e h q g) = omega arith
+  numbered r l (by-left-over e q h) = omega arith
+  numbered r l (by-total e q h) = omega arith
+
+  pub refused-short-count : (s : Section) → Clear image (at s) → len < at s + 2 → Image-refused image 1 (at s)
+  refused-short-count s clear short = first-breach 1 (at s) (omega arith) clear (by-short-count s refl refl short) (λ r b. numbered r (at s) b)
+
+  pub refused-short-section : (s : Section) → Clear image (section-place image s) → len < at s + 2 + size s → Image-refused image 1 (section-place image s)
+  refused-short-section s clear short = first-breach 1 (section-place image s) (omega arith) clear (by-short-section s refl refl short) (λ r b. numbered r (section-place image s) b)
+
+  pub refused-count : (s : Section) → Clear image (at s) → at s + 2 ≤ len → (count image s < least-count s) ⊎ (most-count s < count image s) → Image-refused image 2 (at s)
+  refused-count s clear held out = first-breach 2 (at s) (omega arith) clear (by-count s refl refl out) lowest
+    where
+      lowest : (r : ℕ) → Image-breaks image r (at s) → 2 ≤ r
+      lowest r (by-short-count t e q h) = absurd (omega arith)
+      lowest r (by-short-section t e q h) = absurd (elim (lies s t) [ inl x ↦ omega arith | inr (inl x) ↦ (let y = at-same x in omega arith) | inr (inr x) ↦ omega arith ])
+      lowest r (by-count t e q h) = omega arith
+      lowest r (by-activation e h q g) = omega arith
+      lowest r (by-left-over e q h) = omega arith
+      lowest r (by-total e q h) = omega arith
+
+  pub refused-activation : (k : ℕ) → k < count image mechanism-section → Clear image (section-place image mechanism-section) → section-place image mechanism-section + 2 * count image mechanism-section ≤ len → Bits-held image k → 8 * count image data-section ≤ pair-at image (section-place image mechanism-section + 2 * k) → Image-refused image 3 (section-place image mechanism-section + 2 * k)
+  refused-activation k few clear held bits out =
+      first-breach 3 (section-place image mechanism-section + 2 * k) (omega arith)
+      (clear-within mechanism-section (2 * k) (omega arith) clear held (λ e j h. bits j (omega arith)))
+      (by-activation refl few refl out)
+      lowest
+    where
+      other : (t : Section) → at t ≡ section-place image mechanism-section + 2 * k → ⊥
+      other t q = elim (lies t mechanism-section) [ inl x ↦ omega arith | inr (inl x) ↦ (let y = at-same x in omega arith) | inr (inr x) ↦ omega arith ]
+
+      lowest : (r : ℕ) → Image-breaks image r (section-place image mechanism-section + 2 * k) → 3 ≤ r
+      lowest r (by-short-count t e q h) = absurd (other t (sym q))
+      lowest r (by-short-section t e q h) = absurd (elim (lies t mechanism-section) [ inl x ↦ omega arith | inr (inl x) ↦ (let y = subst (λ u. at u + 2 + size u ≤ len) (sym x) held in omega arith) | inr (inr x) ↦ omega arith ])
+      lowest r (by-count t e q h) = absurd (other t (sym q))
+      lowest r (by-activation e h q g) = omega arith
+      lowest r (by-left-over e q h) = omega arith
+      lowest r (by-total e q h) = omega arith
+
+  -- an image that is clear up to its end breaks none of the first three rules
+  past : image-end image ≤ len → (r l : ℕ) → image-end image ≤ l → Image-breaks image r l → 4 ≤ r
+  past whole r l far (by-short-count t e q h) = absurd (let x = ends t in omega arith)
+  past whole r l far (by-short-section t e q h) = absurd (let x = ends t in omega arith)
+  past whole r l far (by-count t e q h) = absurd (let x = ends t in omega arith)
+  past whole r l far (by-activation e h q g) = absurd (let x = ends mechanism-section in omega arith)
+  past whole r l far (by-left-over e q h) = omega arith
+  past whole r l far (by-total e q h) = omega arith
+
+  pub refused-left-over : Clear image (image-end image) → image-end image < len → Image-refused image 4 (image-end image)
+  refused-left-over clear more = first-breach 4 (image-end image) (omega arith) clear (by-left-over refl refl more) (λ r b. past (omega arith) r (image-end image) (omega arith) b)
+
+  -- nor the fourth, where it has no byte behind its end
+  unbroken : Clear image (image-end image) → len ≡ image-end image → (r l : ℕ) → r < 5 → Image-breaks image r l → ⊥
+  unbroken clear whole r l small b = go b
+    where
+      go : Image-breaks image r l → ⊥
+      go (by-short-count t e q h) = let x = past (omega arith) r l (clear r l small b) b in omega arith
+      go (by-short-section t e q h) = let x = past (omega arith) r l (clear r l small b) b in omega arith
+      go (by-count t e q h) = let x = past (omega arith) r l (clear r l small b) b in omega arith
+      go (by-activation e h q g) = let x = past (omega arith) r l (clear r l small b) b in omega arith
+      go (by-left-over e q h) = omega arith
+      go (by-total e q h) = omega arith
+
+  pub refused-total : Clear image (image-end image) → len ≡ image-end image → (total (program-of image .lengths) ≡ count image line-section → ⊥) → Image-refused image 5 (at line-section)
+  refused-total clear whole wrong = record { broken = by-total refl refl wrong; earliest = λ r l h b. absurd (unbroken clear whole r l h b) }
+
+  pub sound : Clear image (image-end image) → len ≡ image-end image → total (program-of image .lengths) ≡ count image line-section → Image-sound image
+  sound clear whole right r l b = elim (cases-lt r 5) [ inl h ↦ unbroken clear whole r l h b | inr h ↦ go h b ]
+    where
+      go : 5 ≤ r → Image-breaks image r l → ⊥
+      go h (by-short-count t e q x) = omega arith
+      go h (by-short-section t e q x) = omega arith
+      go h (by-count t e q x) = omega arith
+      go h (by-activation e y q x) = omega arith
+      go h (by-left-over e q x) = omega arith
+      go h (by-total e q x) = x right

@@ -1,3 +1,4 @@
 pub mod Held
 pub mod Refusals
 pub mod Parts
+pub mod Reading

@@ -19,12 +19,19 @@ section-of kind.Mechanisms = mechanism-section
 section-of kind.Modules = module-section
 section-of kind.Lines = line-section
 
--- the number of a section's kind, in the order of the sections
-abbrev pub kind-number : Section → ℕ
-kind-number (Data p) = 0
-kind-number (Mechanisms p) = 1
-kind-number (Modules p) = 2
-kind-number (Lines p) = 3
+-- the kind of a section
+abbrev pub kind-of : Section → Kind
+kind-of (Data p) = kind.Data
+kind-of (Mechanisms p) = kind.Mechanisms
+kind-of (Modules p) = kind.Modules
+kind-of (Lines p) = kind.Lines
+
+-- the number of a kind, in the order of the sections
+abbrev pub kind-number : Kind → ℕ
+kind-number kind.Data = 0
+kind-number kind.Mechanisms = 1
+kind-number kind.Modules = 2
+kind-number kind.Lines = 3
 
 -- the part of the image that a section is
 abbrev pub part-of : Section → Part

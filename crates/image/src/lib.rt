@@ -2,4 +2,5 @@
 pub mod fault;
 pub mod image;
 pub mod program;
+mod records;
 pub mod sections;

@@ -1,0 +1,52 @@
+-- Records of two and of four bytes, one after another. Assumes nothing.
+use mathlib.Core.Path.{_≡_, refl, sym, ap, ap₂, subst, _∙_}
+use mathlib.Core.List.{List, [], _∷_, _++_, append-assoc, append-nil}
+use Prim.Native.Nat.{ℕ, zero, suc, _+_, _*_, _/_, _<_, _≤_}
+use native.Mathlib.Nat.{add-zero}
+use native.Mathlib.Omega.{arith}
+use lib.ListN.{length, getD, take, drop}
+use Rattle.std.proofs.shelf.Lists.{getD-take, getD-drop, getD-append-left, drop-at, drop-drop, length-append, length-drop, take-more, take-all}
+use Rattle.rules.specs.Program.{total}
+use Rattle.rules.specs.Image.{pair-at, pairs-from}
+use Rattle.theory.proofs.Images.{pairs-at, pairs-length}
+
+-- what is left behind the record of number i
+pub rest-more : (s rest r t : List ℕ) (i j : ℕ) → rest ≡ drop (2 * i) s → rest ≡ r ++ t → length r ≡ 2 → j ≡ i + 1 → t ≡ drop (2 * j) s
+rest-more s rest r t i j e f two more =
+    let q : 2 * i + 2 ≡ 2 * j = omega arith in
+    sym (drop-at r t 2 two) ∙ ap (drop 2) (sym f ∙ e) ∙ drop-drop 2 (2 * i) s ∙ ap (λ (n : ℕ). drop n s) q
+
+-- a byte of the record of number i
+byte-at : (s rest r t : List ℕ) (i k : ℕ) → rest ≡ drop (2 * i) s → rest ≡ r ++ t → k < length r → getD r k 0 ≡ getD s (2 * i + k) 0
+byte-at s rest r t i k e f h = sym (getD-append-left r t 0 k h) ∙ ap (λ (l : List ℕ). getD l k 0) (sym f ∙ e) ∙ getD-drop (2 * i) s k 0
+
+-- the number in the record of number i
+pub record-pair : (s rest r t : List ℕ) (i : ℕ) → rest ≡ drop (2 * i) s → rest ≡ r ++ t → length r ≡ 2 → getD r 0 0 + 256 * getD r 1 0 ≡ pair-at s (2 * i)
+record-pair s rest r t i e f two =
+    let low = byte-at s rest r t i 0 e f (omega arith) ∙ ap (λ (n : ℕ). getD s n 0) (add-zero (2 * i)) in
+    let high = byte-at s rest r t i 1 e f (omega arith) in
+    omega arith
+
+pub record-within : (s rest r t : List ℕ) (i : ℕ) → rest ≡ drop (2 * i) s → rest ≡ r ++ t → length r ≡ 2 → 2 * i + 2 ≤ length s
+record-within s rest r t i e f two =
+    let a = ap length e ∙ length-drop (2 * i) s in
+    let b = ap length f ∙ length-append r t in
+    omega arith
+
+-- THEIR SUM
+
+total-append : (xs : List ℕ) (x : ℕ) → total (xs ++ x ∷ []) ≡ total xs + x
+total-append [] x = omega arith
+total-append (y ∷ ys) x = let q = total-append ys x in omega arith
+
+pub total-more : (ns : List ℕ) (i : ℕ) → i < length ns → total (take (i + 1) ns) ≡ total (take i ns) + getD ns i 0
+total-more ns i h = ap total (take-more ns i 0 h) ∙ total-append (take i ns) (getD ns i 0)
+
+pub pair-total : (s : List ℕ) (n i : ℕ) → i < n → total (take (i + 1) (pairs-from s 0 n)) ≡ total (take i (pairs-from s 0 n)) + pair-at s (2 * i)
+pair-total s n i h =
+    let l = pairs-length s 0 n in
+    let q : 0 + 2 * i ≡ 2 * i = omega arith in
+    total-more (pairs-from s 0 n) i (omega arith) ∙ ap (λ (x : ℕ). total (take i (pairs-from s 0 n)) + x) (pairs-at s 0 n i h ∙ ap (pair-at s) q)
+
+pub all-total : (s : List ℕ) (n i : ℕ) → n ≤ i → total (take i (pairs-from s 0 n)) ≡ total (pairs-from s 0 n)
+all-total s n i h = let l = pairs-length s 0 n in ap total (take-all i (pairs-from s 0 n) (omega arith))
