@@ -50,3 +50,16 @@ pair-total s n i h =
 
 pub all-total : (s : List ℕ) (n i : ℕ) → n ≤ i → total (take i (pairs-from s 0 n)) ≡ total (pairs-from s 0 n)
 all-total s n i h = let l = pairs-length s 0 n in ap total (take-all i (pairs-from s 0 n) (omega arith))
+
+-- RECORDS IN A PART OF AN IMAGE
+
+part-byte : (image b : List ℕ) (place n k : ℕ) → b ≡ take n (drop place image) → k < n → getD b k 0 ≡ getD image (place + k) 0
+part-byte image b place n k e h = ap (λ (l : List ℕ). getD l k 0) e ∙ getD-take n (drop place image) k 0 h ∙ getD-drop place image k 0
+
+-- the number in the record at k of a part
+pub part-pair : (image b : List ℕ) (place n k : ℕ) → b ≡ take n (drop place image) → k + 2 ≤ n → pair-at b k ≡ pair-at image (place + k)
+part-pair image b place n k e h =
+    let low = part-byte image b place n k e (omega arith) in
+    let q : place + (k + 1) ≡ place + k + 1 = omega arith in
+    let high = part-byte image b place n (k + 1) e (omega arith) ∙ ap (λ (m : ℕ). getD image m 0) q in
+    omega arith

@@ -2,5 +2,6 @@
 pub mod fault;
 pub mod image;
 pub mod program;
+mod reading;
 mod records;
 pub mod sections;

@@ -1,10 +1,12 @@
 // The four sections of an image, as parts of it.
 ghost use mathlib.Core.Path.{_≡_};
+ghost use Prim.Native.Nat.{_+_, _^_, _<_};
+ghost use lib.ListN.{length};
 ghost use Rattle.rules.specs.Image.{record-size, least-count, most-count};
 ghost use Rattle.image.specs.Parts.{section-of, part-of};
 
 /// The kinds of sections, in their order.
-#[derive(Clone, Copy, Debug, PartialEq, Eq)]
+#[derive(Clone, Copy)]
 pub enum Kind {
     Data,
     Mechanisms,
@@ -55,6 +57,16 @@ impl Kind {
 pub struct Part<'a> {
     pub offset: usize,
     pub bytes: &'a [u8],
+}
+
+impl Part<'_> {
+    // The offset behind this part.
+    pub(crate) fn end(self) -> usize
+        requires { ⌜ self .offset + length (now (self .bytes)) < 2 ^ 64 ⌝ }
+        ensures { λ r. ⌜ r ≡ self .entry .offset + length (now (self .entry .bytes)) ⌝ }
+    {
+        self.offset + self.bytes.len()
+    }
 }
 
 /// A section of an image: the part that its records fill, behind its count.
