@@ -63,3 +63,14 @@ part-pair image b place n k e h =
     let q : place + (k + 1) ≡ place + k + 1 = omega arith in
     let high = part-byte image b place n (k + 1) e (omega arith) ∙ ap (λ (m : ℕ). getD image m 0) q in
     omega arith
+
+-- the numbers from k on in a part
+pub pairs-part : (image b : List ℕ) (place n : ℕ) → b ≡ take n (drop place image) → (m k : ℕ) → k + 2 * m ≤ n → pairs-from b k m ≡ pairs-from image (place + k) m
+pairs-part image b place n e zero k h = refl
+pairs-part image b place n e (suc m) k h =
+    let q : place + (k + 2) ≡ place + k + 2 = omega arith in
+    ap₂ _∷_ (part-pair image b place n k e (omega arith)) (pairs-part image b place n e m (k + 2) (omega arith) ∙ ap (λ (l : ℕ). pairs-from image l m) q)
+
+-- all numbers of a part
+pub pairs-whole : (image b : List ℕ) (place n : ℕ) → b ≡ take (2 * n) (drop place image) → pairs-from b 0 n ≡ pairs-from image place n
+pairs-whole image b place n e = pairs-part image b place (2 * n) e n 0 (omega arith) ∙ ap (λ (l : ℕ). pairs-from image l n) (add-zero place)

@@ -26,13 +26,6 @@ kind-of (Mechanisms p) = kind.Mechanisms
 kind-of (Modules p) = kind.Modules
 kind-of (Lines p) = kind.Lines
 
--- the number of a kind, in the order of the sections
-abbrev pub kind-number : Kind → ℕ
-kind-number kind.Data = 0
-kind-number kind.Mechanisms = 1
-kind-number kind.Modules = 2
-kind-number kind.Lines = 3
-
 -- the part of the image that a section is
 abbrev pub part-of : Section → Part
 part-of (Data p) = p

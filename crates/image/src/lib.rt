@@ -1,7 +1,6 @@
 // An image of a program, from its bytes to the program that it holds.
 pub mod fault;
-pub mod image;
 pub mod program;
-mod reading;
+pub mod reading;
 mod records;
 pub mod sections;

@@ -6,14 +6,20 @@ ghost use Rattle.std.specs.Results.{Cases};
 ghost use Rattle.rules.specs.Image.{pair-at};
 ghost use Rattle.image.specs.declared.fault.ImageFault.the-variants.{TooShort, BytesLeftOver};
 ghost use Rattle.image.specs.Parts.{section-of};
+ghost use Rattle.image.specs.Refusals.{Refused-by};
+ghost use Rattle.image.specs.Whole.{Reads};
 ghost use Rattle.image.specs.Reading.{Stands, Counted, Found, Missing};
 use crate::fault::ImageFault;
+use crate::records::check_activations;
 use crate::records::pair;
+use crate::records::unit_starts;
+use crate::sections::Image;
 use crate::sections::Kind;
 use crate::sections::Part;
 use crate::sections::Section;
 
 // An image that is being read.
+#[derive(Drop)]
 struct Reader<'a> {
     image: &'a [u8],
 }
@@ -66,4 +72,30 @@ impl<'a> Reader<'a> {
         }
         Ok(())
     }
+}
+
+/// The sections of an image, or the refusal that it earns.
+pub fn read_image<'a>(image: &'a [u8]) -> Result<Image<'a>, ImageFault>
+    ensures { λ r. ⌜ Cases r (λ i. (now (i .bytes) ≡ now (image .entry)) × Reads i) (λ e. Refused-by (now (image .entry)) e) ⌝ }
+{
+    let reader = Reader { image };
+    let data = reader.section(0, Kind::Data)?;
+    let initial = data.part();
+    let mechanisms_at = initial.end();
+    let mechanisms = reader.section(mechanisms_at, Kind::Mechanisms)?;
+    let activation = mechanisms.part();
+    check_activations(8 * initial.bytes.len(), activation)?;
+    let modules_at = activation.end();
+    let modules = reader.section(modules_at, Kind::Modules)?;
+    let lengths = modules.part();
+    let lines_at = lengths.end();
+    let lines = reader.section(lines_at, Kind::Lines)?;
+    let text = lines.part();
+    let end = text.end();
+    reader.finish(end)?;
+    let (starts, total) = unit_starts(lengths.bytes);
+    if total != text.bytes.len() / 4 {
+        return Err(ImageFault::WrongTotal(lines_at));
+    }
+    Ok(Image { bytes: image, data, mechanisms, modules, lines, starts })
 }

@@ -91,3 +91,14 @@ impl<'a> Section<'a> {
         }
     }
 }
+
+/// An image in its sections: its bytes, the four sections, and the first line of each module.
+#[derive(Clone, Copy)]
+pub struct Image<'a> {
+    pub bytes: &'a [u8],
+    pub data: Section<'a>,
+    pub mechanisms: Section<'a>,
+    pub modules: Section<'a>,
+    pub lines: Section<'a>,
+    pub starts: [usize; 7],
+}
