@@ -88,10 +88,7 @@ module _ (image : List ℕ) where
   -- the modules' lengths
   module _ (x : Section) (found : Found image (at Modules) Modules x) (p : Part) (is : p ≡ part-of x) where
     pub lengths-are : pairs-from (p .bytes .now) 0 (length (p .bytes .now) / 2) ≡ program-of image .lengths
-    lengths-are =
-        let l = part-long Modules x found p is in
-        let n : length (p .bytes .now) / 2 ≡ count image module-section = omega arith in
-        ap (pairs-from (p .bytes .now) 0) n ∙ pairs-whole image (p .bytes .now) (section-place image module-section) (count image module-section) (part-bytes Modules x found p is)
+    lengths-are = pairs-whole image (p .bytes .now) (section-place image module-section) (count image module-section) (part-bytes Modules x found p is) (part-long Modules x found p is)
 
     pub starts-are : (starts : List ℕ) → ((m : ℕ) → m < 7 → getD starts m 0 ≡ total (take m (pairs-from (p .bytes .now) 0 (length (p .bytes .now) / 2)))) → Starts-are (program-of image) starts
     starts-are starts h m lt = h m lt ∙ ap (λ (ns : List ℕ). total (take m ns)) lengths-are
