@@ -25,13 +25,17 @@ impl ImageFault {
     pub fn refusal(self) -> Refusal
         ensures { λ r. ⌜ r ≡ image-refusal self ⌝ }
     {
-        let layer = Layer::Image;
-        match self {
-            ImageFault::TooShort(place) => Refusal { rule: Rule::TooShort, layer, place },
-            ImageFault::CountOutOfRange(place) => Refusal { rule: Rule::CountOutOfRange, layer, place },
-            ImageFault::ActivationOutside(place) => Refusal { rule: Rule::ActivationOutside, layer, place },
-            ImageFault::BytesLeftOver(place) => Refusal { rule: Rule::BytesLeftOver, layer, place },
-            ImageFault::WrongTotal(place) => Refusal { rule: Rule::WrongTotal, layer, place },
+        let (rule, place) = match self {
+            ImageFault::TooShort(place) => (Rule::TooShort, place),
+            ImageFault::CountOutOfRange(place) => (Rule::CountOutOfRange, place),
+            ImageFault::ActivationOutside(place) => (Rule::ActivationOutside, place),
+            ImageFault::BytesLeftOver(place) => (Rule::BytesLeftOver, place),
+            ImageFault::WrongTotal(place) => (Rule::WrongTotal, place),
+        };
+        Refusal {
+            rule,
+            layer: Layer::Image,
+            place,
         }
     }
 }

@@ -44,7 +44,11 @@ fn read_lines(heap: Global, bytes: &[u8]) -> Result<Vec<Line>, AllocError>
             unreachable()
         };
         let operand = pair(*lo, *hi);
-        lines.push(Line { code: *code, mode: *mode, operand })?;
+        lines.push(Line {
+            code: *code,
+            mode: *mode,
+            operand,
+        })?;
     }
     Ok(lines)
 }
@@ -63,6 +67,11 @@ impl Image<'_> {
         let lengths = read_pairs(heap, modules.bytes)?;
         let text = self.lines.part();
         let lines = read_lines(heap, text.bytes)?;
-        Ok(Program { initial, activation, lengths, lines })
+        Ok(Program {
+            initial,
+            activation,
+            lengths,
+            lines,
+        })
     }
 }

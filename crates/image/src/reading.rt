@@ -34,7 +34,10 @@ impl<'a> Reader<'a> {
             return Err(ImageFault::TooShort(place));
         }
         let bytes = &self.image[place..place + n];
-        Ok(Part { offset: place, bytes })
+        Ok(Part {
+            offset: place,
+            bytes,
+        })
     }
 
     // The count at a place, of a section of this kind.
@@ -55,12 +58,14 @@ impl<'a> Reader<'a> {
     {
         let n = self.count(place, kind)?;
         let part = self.part(place + 2, kind.record_size() * n)?;
-        Ok(match kind {
-            Kind::Data => Section::Data(part),
-            Kind::Mechanisms => Section::Mechanisms(part),
-            Kind::Modules => Section::Modules(part),
-            Kind::Lines => Section::Lines(part),
-        })
+        Ok(
+            match kind {
+                Kind::Data => Section::Data(part),
+                Kind::Mechanisms => Section::Mechanisms(part),
+                Kind::Modules => Section::Modules(part),
+                Kind::Lines => Section::Lines(part),
+            },
+        )
     }
 
     // Refuses what is left over from a place on.
@@ -75,7 +80,7 @@ impl<'a> Reader<'a> {
 }
 
 /// The sections of an image, or the refusal that it earns.
-pub fn read_image<'a>(image: &'a [u8]) -> Result<Image<'a>, ImageFault>
+pub fn read_image(image: &[u8]) -> Result<Image<'_>, ImageFault>
     ensures { λ r. ⌜ Cases r (λ i. (now (i .bytes) ≡ now (image .entry)) × Reads i) (λ e. Refused-by (now (image .entry)) e) ⌝ }
 {
     let reader = Reader { image };
@@ -97,5 +102,12 @@ pub fn read_image<'a>(image: &'a [u8]) -> Result<Image<'a>, ImageFault>
     if total != text.bytes.len() / 4 {
         return Err(ImageFault::WrongTotal(lines_at));
     }
-    Ok(Image { bytes: image, data, mechanisms, modules, lines, starts })
+    Ok(Image {
+        bytes: image,
+        data,
+        mechanisms,
+        modules,
+        lines,
+        starts,
+    })
 }

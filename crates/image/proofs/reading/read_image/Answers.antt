@@ -128,8 +128,7 @@ returns c =
     let at = need.at·returns c in
     let u = at .After-unit-starts-total in
     let image = c .args .image .now in
-    let m = modules-found (at .In-Continue-modules) in
-    (
+    let m = modules-found (at .In-Continue-modules) in (
       refl,
       record {
         sound = sound image (clear-4 (at .After-end-end)) (ended u) (sym (sum u) ∙ c .if-total-text .left ∙ line-count u);

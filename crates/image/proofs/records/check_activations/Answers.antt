@@ -31,8 +31,7 @@ loop-i-again c =
     let inv = c .loop-i .inv in
     let bytes = c .args .part .bytes .now in
     let i = enumerate-count (c .loop-i .i-iterator) in
-    let here : pair-at bytes (2 * i) < c .args .bits = (let q = read (need.at·loop-i-again c .After-from-bit) in omega arith) in
-    (
+    let here : pair-at bytes (2 * i) < c .args .bits = (let q = read (need.at·loop-i-again c .After-from-bit) in omega arith) in (
       search needs,
       search needs,
       search needs,

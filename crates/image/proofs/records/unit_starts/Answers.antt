@@ -25,8 +25,7 @@ loop-i-again c =
     let pair = record-pair _ _ _ _ i (inv .3) (step .0 .1 .0) two in
     let sum = pair-total bytes n i (omega arith) in
     let index : c .in-Some .i ≡ i = step .1 in
-    let lt : c .in-Some .i < length (c .loop-i .starts) = omega arith in
-    (
+    let lt : c .in-Some .i < length (c .loop-i .starts) = omega arith in (
       search needs,
       search needs,
       search needs,
@@ -35,9 +34,9 @@ loop-i-again c =
       omega arith,
       (let e : c .loop-i .sum + c .from-sum .result ≡ total (take (i + 1) (pairs-from bytes 0 n)) = omega arith in e ∙ ap (λ (k : ℕ). total (take k (pairs-from bytes 0 n))) (sym (step .2))),
       subst (λ (k : ℕ). (m : ℕ) → m < k → getD (set (c .loop-i .starts) (c .in-Some .i) (c .loop-i .sum)) m 0 ≡ total (take m (pairs-from bytes 0 n))) (sym (step .2))
-      (below-more (λ (m : ℕ). getD (set (c .loop-i .starts) (c .in-Some .i) (c .loop-i .sum)) m 0 ≡ total (take m (pairs-from bytes 0 n))) i
-      (λ m h. (let ne : m ≢ c .in-Some .i = omega arith in getD-set-other (c .loop-i .starts) (c .in-Some .i) m (c .loop-i .sum) 0 ne ∙ inv .7 m h))
-      (ap (λ (k : ℕ). getD (set (c .loop-i .starts) (c .in-Some .i) (c .loop-i .sum)) k 0) (sym index) ∙ getD-set-same (c .loop-i .starts) (c .in-Some .i) (c .loop-i .sum) 0 lt ∙ inv .6)),
+          (below-more (λ (m : ℕ). getD (set (c .loop-i .starts) (c .in-Some .i) (c .loop-i .sum)) m 0 ≡ total (take m (pairs-from bytes 0 n))) i
+          (λ m h. (let ne : m ≢ c .in-Some .i = omega arith in getD-set-other (c .loop-i .starts) (c .in-Some .i) m (c .loop-i .sum) 0 ne ∙ inv .7 m h))
+          (ap (λ (k : ℕ). getD (set (c .loop-i .starts) (c .in-Some .i) (c .loop-i .sum)) k 0) (sym index) ∙ getD-set-same (c .loop-i .starts) (c .in-Some .i) (c .loop-i .sum) 0 lt ∙ inv .6)),
     )
 
 pub returns : need.returns

@@ -25,8 +25,7 @@ ghost-result c =
     let image = c .args .self .now .bytes .now in
     let sound = c .pre .sound in
     let d = c .in-Continue-initial .initial .ok .0 ∙ ap length (initial at) in
-    let n = c .in-Continue-lines .lines .ok .0 ∙ ap length (lines at) in
-    (
+    let n = c .in-Continue-lines .lines .ok .0 ∙ ap length (lines at) in (
       in-range image sound data-section _ d,
       (
         in-range image sound mechanism-section _ (c .in-Continue-activation .activation .ok .0 ∙ ap length (activation at)),
