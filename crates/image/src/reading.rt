@@ -58,14 +58,13 @@ impl<'a> Reader<'a> {
     {
         let n = self.count(place, kind)?;
         let part = self.part(place + 2, kind.record_size() * n)?;
-        Ok(
-            match kind {
-                Kind::Data => Section::Data(part),
-                Kind::Mechanisms => Section::Mechanisms(part),
-                Kind::Modules => Section::Modules(part),
-                Kind::Lines => Section::Lines(part),
-            },
-        )
+        let section = match kind {
+            Kind::Data => Section::Data(part),
+            Kind::Mechanisms => Section::Mechanisms(part),
+            Kind::Modules => Section::Modules(part),
+            Kind::Lines => Section::Lines(part),
+        };
+        Ok(section)
     }
 
     // Refuses what is left over from a place on.

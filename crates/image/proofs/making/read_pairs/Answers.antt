@@ -10,7 +10,7 @@ pub loop-record-again : need.loop-record-again
 loop-record-again c =
     let step = c .in-Some .ensures tt .steps in
     let inv = c .loop-record .inv in
-    let two : length (c .in-Some .record .now) ≡ 2 = step .1 .1 ∙ inv .0 in (
+    let two : length (c .in-Some .record .now) ≡ 2 = (let a = step .1 .1 in let b = inv .0 in omega arith) in (
       step .0 ∙ inv .0,
       grown _ _ _ _ _ _ (c .in-Continue-push .ensures tt .items) (pairs-join _ _ _ _ (step .1 .0) two (c .pair-n .ensures)) (inv .1),
     )

@@ -12,18 +12,15 @@ use Rattle.image.proofs.Pairs.{rest-more, record-pair, record-within}
 use Rattle.image.proofs.records.check_activations.Needs as need
 use Rattle.image.proofs.records.check_activations.Needs.{After-from-bit}
 
--- the number that a turn reads
-read : (c : After-from-bit) → c .from-bit .result ≡ pair-at (c .args .part .bytes .now) (2 * enumerate-count (c .loop-i .i-iterator))
+-- the number that a turn reads stands inside the part
+read : (c : After-from-bit) → (c .from-bit .result ≡ pair-at (c .args .part .bytes .now) (2 * enumerate-count (c .loop-i .i-iterator))) × (2 * enumerate-count (c .loop-i .i-iterator) + 2 ≤ length (c .args .part .bytes .now))
 read c =
     let step = c .in-Some .ensures tt .steps in
     let inv = c .loop-i .inv in
-    c .from-bit .ensures ∙ c .pair .ensures ∙ record-pair _ _ _ _ (enumerate-count (c .loop-i .i-iterator)) (inv .3) (step .0 .1 .0) (step .0 .1 .1 ∙ inv .2)
-
-within : (c : After-from-bit) → 2 * enumerate-count (c .loop-i .i-iterator) + 2 ≤ length (c .args .part .bytes .now)
-within c =
-    let step = c .in-Some .ensures tt .steps in
-    let inv = c .loop-i .inv in
-    record-within _ _ _ _ (enumerate-count (c .loop-i .i-iterator)) (inv .3) (step .0 .1 .0) (step .0 .1 .1 ∙ inv .2)
+    let i = enumerate-count (c .loop-i .i-iterator) in
+    let two : length (c .in-Some .record .now) ≡ 2 = (let a = step .0 .1 .1 in let b = inv .2 in omega arith) in
+    let pair = record-pair _ _ _ _ i (inv .3) (step .0 .1 .0) two in
+    (omega arith, record-within _ _ _ _ i (inv .3) (step .0 .1 .0) two)
 
 pub loop-i-again : need.loop-i-again
 loop-i-again c =
@@ -31,7 +28,7 @@ loop-i-again c =
     let inv = c .loop-i .inv in
     let bytes = c .args .part .bytes .now in
     let i = enumerate-count (c .loop-i .i-iterator) in
-    let here : pair-at bytes (2 * i) < c .args .bits = (let q = read (need.at·loop-i-again c .After-from-bit) in omega arith) in (
+    let here : pair-at bytes (2 * i) < c .args .bits = (let q = read (need.at·loop-i-again c .After-from-bit) .0 in omega arith) in (
       search needs,
       search needs,
       search needs,
@@ -44,8 +41,8 @@ returns-then-bits-bit c =
     let step = c .in-Some .ensures tt .steps in
     let at = need.at·returns-then-bits-bit c .After-from-bit in
     let i = enumerate-count (c .loop-i .i-iterator) in
-    let here = read at in
-    let inside = within at in
+    let here = read at .0 in
+    let inside = read at .1 in
     record {
       index = i;
       within = omega arith;
