@@ -1,1 +1,5 @@
 pub mod Held
+pub mod Refusals
+pub mod Parts
+pub mod Reading
+pub mod Whole

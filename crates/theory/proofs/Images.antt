@@ -26,7 +26,7 @@ get-behind xs ys a k e = ap (λ (n : ℕ). getD (xs ++ ys) n 0) e ∙ getD-appen
 pair-behind : (xs ys : List ℕ) (a k : ℕ) → a ≡ length xs + k → pair-at (xs ++ ys) a ≡ pair-at ys k
 pair-behind xs ys a k e = ap₂ (λ (u v : ℕ). u + 256 * (v + 256 * 0)) (get-behind xs ys a k e) (get-behind xs ys (a + 1) (k + 1) (omega arith))
 
-pairs-behind : (xs ys : List ℕ) (n a k : ℕ) → a ≡ length xs + k → pairs-from (xs ++ ys) a n ≡ pairs-from ys k n
+pub pairs-behind : (xs ys : List ℕ) (n a k : ℕ) → a ≡ length xs + k → pairs-from (xs ++ ys) a n ≡ pairs-from ys k n
 pairs-behind xs ys zero a k e = refl
 pairs-behind xs ys (suc n) a k e = ap₂ _∷_ (pair-behind xs ys a k e) (pairs-behind xs ys n (a + 2) (k + 2) (omega arith))
 
@@ -37,7 +37,7 @@ line-behind xs ys a k e =
     let o = pair-behind xs ys (a + 2) (k + 2) (omega arith) in
     λ i. record { code = c i; mode = m i; operand = o i }
 
-lines-behind : (xs ys : List ℕ) (n a k : ℕ) → a ≡ length xs + k → lines-from (xs ++ ys) a n ≡ lines-from ys k n
+pub lines-behind : (xs ys : List ℕ) (n a k : ℕ) → a ≡ length xs + k → lines-from (xs ++ ys) a n ≡ lines-from ys k n
 lines-behind xs ys zero a k e = refl
 lines-behind xs ys (suc n) a k e = ap₂ _∷_ (line-behind xs ys a k e) (lines-behind xs ys n (a + 4) (k + 4) (omega arith))
 
@@ -69,15 +69,15 @@ append-nothing : {A : Type 0} (xs : List A) → xs ++ [] ≡ xs
 append-nothing [] = refl
 append-nothing (x ∷ xs) = ap (λ (ys : List _). x ∷ ys) (append-nothing xs)
 
-pairs-length : (image : List ℕ) (place n : ℕ) → length (pairs-from image place n) ≡ n
+pub pairs-length : (image : List ℕ) (place n : ℕ) → length (pairs-from image place n) ≡ n
 pairs-length image place zero = refl
 pairs-length image place (suc n) = ap suc (pairs-length image (place + 2) n)
 
-lines-length : (image : List ℕ) (place n : ℕ) → length (lines-from image place n) ≡ n
+pub lines-length : (image : List ℕ) (place n : ℕ) → length (lines-from image place n) ≡ n
 lines-length image place zero = refl
 lines-length image place (suc n) = ap suc (lines-length image (place + 4) n)
 
-pairs-at : (image : List ℕ) (place n k : ℕ) → k < n → getD (pairs-from image place n) k 0 ≡ pair-at image (place + 2 * k)
+pub pairs-at : (image : List ℕ) (place n k : ℕ) → k < n → getD (pairs-from image place n) k 0 ≡ pair-at image (place + 2 * k)
 pairs-at image place zero k h = absurd (omega arith)
 pairs-at image place (suc n) zero h = let q : place ≡ place + 2 * 0 = omega arith in ap (pair-at image) q
 pairs-at image place (suc n) (suc k) h = let q : place + 2 + 2 * k ≡ place + 2 * suc k = omega arith in pairs-at image (place + 2) n k (omega arith) ∙ ap (pair-at image) q
@@ -267,23 +267,23 @@ small-drop zero xs h i = h i
 small-drop (suc n) [] h i = lit< tt
 small-drop (suc n) (x ∷ xs) h i = small-drop n xs (λ j. h (suc j)) i
 
-module _ (image : List ℕ) (small : Bytes image) (sound : Image-sound image) where
-  least : (s : Section) → least-count s ≤ count image s
+module _ (image : List ℕ) (sound : Image-sound image) where
+  pub least : (s : Section) → least-count s ≤ count image s
   least s = elim (cases-lt (count image s) (least-count s)) [ inl h ↦ absurd (sound 2 (count-place image s) (by-count s refl refl (inl h))) | inr h ↦ h ]
 
-  most : (s : Section) → count image s ≤ most-count s
+  pub most : (s : Section) → count image s ≤ most-count s
   most s = elim (cases-lt (most-count s) (count image s)) [ inl h ↦ absurd (sound 2 (count-place image s) (by-count s refl refl (inr h))) | inr h ↦ h ]
 
   data-held : 2 + count image data-section ≤ length image
   data-held = elim (cases-lt (length image) (section-place image data-section + 1 * count image data-section)) [ inl h ↦ absurd (sound 1 (section-place image data-section) (by-short-section data-section refl refl h)) | inr h ↦ omega arith ]
 
-  read : (s : Section) → records (program-of image) s ≡ count image s
+  pub read : (s : Section) → records (program-of image) s ≡ count image s
   read data-section = length-take-le (count image data-section) (drop 2 image) (simp length-drop (let h = data-held in omega arith))
   read mechanism-section = pairs-length image (section-place image mechanism-section) (count image mechanism-section)
   read module-section = pairs-length image (section-place image module-section) (count image module-section)
   read line-section = lines-length image (section-place image line-section) (count image line-section)
 
-  held : (k : ℕ) → k < length (program-of image .activation) → getD (program-of image .activation) k 0 < 8 * length (program-of image .initial)
+  pub held : (k : ℕ) → k < length (program-of image .activation) → getD (program-of image .activation) k 0 < 8 * length (program-of image .initial)
   held k h =
       let m = read mechanism-section in
       let d = read data-section in
@@ -291,16 +291,19 @@ module _ (image : List ℕ) (small : Bytes image) (sound : Image-sound image) wh
       let v = pairs-at image (section-place image mechanism-section) (count image mechanism-section) k q in
       elim (cases-lt (pair-at image (section-place image mechanism-section + 2 * k)) (8 * count image data-section)) [ inl g ↦ omega arith | inr g ↦ absurd (sound 3 (section-place image mechanism-section + 2 * k) (by-activation refl q refl g)) ]
 
-  shape : Shaped (program-of image)
-  shape = record {
+  pub all-lines-counted : total (program-of image .lengths) ≡ count image line-section
+  all-lines-counted = sure (cases-eq (total (program-of image .lengths)) (count image line-section)) (λ n. sound 5 (count-place image line-section) (by-total refl refl n))
+
+  shape : Bytes image → Shaped (program-of image)
+  shape small = record {
     counts = λ s. (let r = read s in let a = least s in let b = most s in (omega arith, omega arith));
     bytes-small = small-take (count image data-section) (drop 2 image) (small-drop 2 image small);
     activation-inside = held;
-    all-lines = sure (cases-eq (total (program-of image .lengths)) (count image line-section)) (λ n. sound 5 (count-place image line-section) (by-total refl refl n)) ∙ sym (read line-section);
+    all-lines = all-lines-counted ∙ sym (read line-section);
   }
 
 pub sound-images-are-shaped : Sound-images-are-shaped
-sound-images-are-shaped image small sound = shape image small sound
+sound-images-are-shaped image small sound = shape image sound small
 
 -- THE PROGRAM OF A SOUND IMAGE, WRITTEN AGAIN
 
@@ -383,7 +386,7 @@ sound-images-are-encodings image small =
     (λ sound. (program-of image, shape image small sound, sym (again image small sound)), λ p sh e. subst Image-sound (sym e) (images-are-sound p sh))
 
 pub loads-are-accepted : Loads-are-accepted
-loads-are-accepted image p small h = record { shaped = subst Shaped (sym (h .program)) (shape image small (h .sound)); unbroken = h .unbroken }
+loads-are-accepted image p small h = record { shaped = subst Shaped (sym (h .program)) (shape image (h .sound) small); unbroken = h .unbroken }
 
 -- REFUSALS
 

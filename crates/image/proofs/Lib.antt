@@ -1,0 +1,4 @@
+pub mod Places
+pub mod Pairs
+pub mod Verdict
+pub mod Contents
