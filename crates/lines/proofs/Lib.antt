@@ -1,3 +1,4 @@
 pub mod Masks
 pub mod Comparisons
 pub mod Cells
+pub mod WidthLines
