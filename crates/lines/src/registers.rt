@@ -2,6 +2,7 @@
 ghost use Prim.Native.Nat.{_≤_};
 
 /// RLO, DR and the stack, which is the first `depth` cells, the newest last.
+#[derive(Clone, Copy)]
 pub struct Registers {
     pub rlo: bool,
     pub dr: u32,

@@ -1,6 +1,7 @@
 // Where control goes after a line.
 
 /// The turn that a line takes.
+#[derive(Clone, Copy)]
 pub enum Turn {
     // to the line that follows, or to a line named
     Follows,

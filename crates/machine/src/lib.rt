@@ -1,0 +1,6 @@
+// The memory of a started program, and a pass of one of its units.
+pub mod memory;
+pub mod moves;
+pub mod place;
+pub mod point;
+pub mod units;
