@@ -3,15 +3,16 @@ ghost use mathlib.Core.Path.{_≡_};
 ghost use Prim.Native.Nat.{_<_};
 ghost use Rattle.std.specs.Of.Vec.{vec-len};
 ghost use Rattle.rules.specs.Program.{Real};
-ghost use Rattle.rules.specs.Run.{arrive-module, main-after, arrive, leave, enter};
-ghost use Rattle.lines.specs.Views.{registers-of};
-ghost use Rattle.machine.specs.Views.{program-of, memory-of, config-of};
+ghost use Rattle.rules.specs.Run.{arrive-module, main-after, arrive, leave, enter, turned};
+ghost use Rattle.lines.specs.Views.{registers-of, turn-of};
+ghost use Rattle.machine.specs.Views.{program-of, memory-of, config-of, Serves};
 use crate::memory::Memory;
 use crate::place::Place;
 use crate::point::{point_of, set_point};
 use crate::units::{mechanism_end, mechanism_first};
 use lines::registers::Registers;
 use lines::stack::clear_registers;
+use lines::turn::Turn;
 use rules::unit::UnitId;
 use verdict::accepted::Accepted;
 
@@ -78,4 +79,34 @@ pub fn enter_unit(program: &Accepted, unit: UnitId, registers: &mut Registers, m
     *registers = clear_registers();
     let line = point_of(program, memory, unit);
     arrive_at(program, unit, line, registers, memory)
+}
+
+/// Control goes on after a line of a unit by the line's turn.
+pub fn take_turn(program: &Accepted, unit: UnitId, line: usize, turn: Turn, registers: &mut Registers, memory: &mut Memory) -> Place
+    requires unit { ⌜ Real (program-of (now program)) unit ⌝ }
+    requires points { ⌜ vec-len (now memory .points) ≡ vec-len (now program .formed .program .activation) ⌝ }
+    requires line { ⌜ line < vec-len (now program .formed .program .lines) ⌝ }
+    requires turn { ⌜ Serves (program-of (now program)) line turn ⌝ }
+    ensures { λ r. ⌜ config-of r (now (registers .exit)) (now (memory .exit)) ≡ turned (program-of (now (program .entry))) unit line (registers-of (now (registers .entry))) (memory-of (now (memory .entry))) (turn-of turn) ⌝ }
+{
+    match turn {
+        Turn::Follows => arrive_at(program, unit, line + 1, registers, memory),
+        Turn::Goes(target) => arrive_at(program, unit, target as usize, registers, memory),
+        Turn::Stops => {
+            set_point(memory, unit, line + 1);
+            leave_unit(program, unit, registers, memory)
+        }
+        Turn::Waits => leave_unit(program, unit, registers, memory),
+        Turn::Resumes => {
+            set_point(memory, unit, line + 1);
+            arrive_at(program, unit, line + 1, registers, memory)
+        }
+        Turn::Enters(mechanism) => enter_unit(program, UnitId::Mechanism(mechanism as usize), registers, memory),
+        Turn::Skips(mechanism) => main_after(program, mechanism as usize, registers, memory),
+        Turn::Resets(mechanism) => {
+            let first = mechanism_first(program, mechanism as usize);
+            set_point(memory, UnitId::Mechanism(mechanism as usize), first);
+            arrive_at(program, unit, line + 1, registers, memory)
+        }
+    }
 }
