@@ -1,1 +1,5 @@
 pub mod Places
+pub mod Soundness
+pub mod Executions
+pub mod Lookups
+pub mod Passing
