@@ -3,3 +3,4 @@ pub mod Soundness
 pub mod Executions
 pub mod Lookups
 pub mod Passing
+pub mod FirstLines

@@ -1,4 +1,5 @@
 // The memory of a started program, and a pass of one of its units.
+pub mod fresh;
 pub mod memory;
 pub mod moves;
 pub mod pass;
