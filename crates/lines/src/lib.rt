@@ -1,8 +1,9 @@
 // The execution of one line: the bits and numbers of the data, the registers, and what each line does to them.
 pub mod bits;
-pub mod effects;
-pub mod numbers;
+pub mod cleared;
+mod effects;
+mod numbers;
 pub mod registers;
-pub mod stack;
+mod stack;
 pub mod step;
 pub mod turn;

@@ -1,17 +1,9 @@
-// The registers as a unit is entered, and the stack of bits in them.
+// The stack of bits in the registers.
 ghost use mathlib.Core.Path.{_≡_};
 ghost use mathlib.Core.List.{_∷_};
 ghost use Prim.Native.Nat.{_<_};
-ghost use Rattle.rules.specs.Effect.{cleared};
-ghost use Rattle.lines.specs.Views.{cells-of, registers-of};
+ghost use Rattle.lines.specs.Views.{cells-of};
 use crate::registers::Registers;
-
-/// The registers as a unit is entered: RLO and DR 0, and the stack empty.
-pub fn clear_registers() -> Registers
-    ensures { λ r. ⌜ registers-of r ≡ cleared ⌝ }
-{
-    Registers { rlo: false, dr: 0, cells: [false; 8], depth: 0 }
-}
 
 /// Puts RLO onto the stack.
 pub fn push(registers: &mut Registers)

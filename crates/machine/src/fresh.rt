@@ -22,7 +22,7 @@ fn first_points(program: &Accepted, heap: Global) -> Result<Vec<usize>, AllocErr
 }
 
 /// The memory that a start sets: the initial bytes, and all points at first lines.
-pub fn fresh_memory(program: &Accepted, heap: Global) -> Result<Memory, AllocError>
+pub fn fresh(program: &Accepted, heap: Global) -> Result<Memory, AllocError>
     ensures { λ r. ⌜ made r (λ m. memory-of m ≡ fresh (program-of (now (program .entry)))) ⌝ }
 {
     let formed = &program.formed;

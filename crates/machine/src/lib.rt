@@ -1,8 +1,8 @@
-// The memory of a started program, and a pass of one of its units.
+// The memory of a started program, and the passes of its modules.
 pub mod fresh;
 pub mod memory;
-pub mod moves;
+mod moves;
 pub mod pass;
-pub mod place;
-pub mod point;
-pub mod units;
+mod place;
+mod point;
+mod units;

@@ -11,7 +11,7 @@ use crate::place::Place;
 use crate::point::{point_of, set_point};
 use crate::units::{mechanism_end, mechanism_first};
 use lines::registers::Registers;
-use lines::stack::clear_registers;
+use lines::cleared::cleared_registers;
 use lines::turn::Turn;
 use rules::unit::UnitId;
 use verdict::accepted::Accepted;
@@ -25,7 +25,7 @@ fn arrive_module(program: &Accepted, module: usize, line: usize, registers: &mut
         return Place::At(UnitId::Module(module), line);
     }
     set_point(memory, UnitId::Module(module), program.formed.starts[module]);
-    *registers = clear_registers();
+    *registers = cleared_registers();
     Place::Over(true)
 }
 
@@ -34,7 +34,7 @@ fn main_after(program: &Accepted, mechanism: usize, registers: &mut Registers, m
     requires { ⌜ mechanism < vec-len (now program .formed .program .activation) ⌝ }
     ensures { λ r. ⌜ config-of r (now (registers .exit)) (now (memory .exit)) ≡ main-after (program-of (now (program .entry))) mechanism (memory-of (now (memory .entry))) ⌝ }
 {
-    *registers = clear_registers();
+    *registers = cleared_registers();
     arrive_module(program, 3, mechanism_end(program, mechanism), registers, memory)
 }
 
@@ -63,7 +63,7 @@ pub fn leave_unit(program: &Accepted, unit: UnitId, registers: &mut Registers, m
 {
     match unit {
         UnitId::Module(_) => {
-            *registers = clear_registers();
+            *registers = cleared_registers();
             Place::Over(false)
         }
         UnitId::Mechanism(k) => main_after(program, k, registers, memory),
@@ -76,7 +76,7 @@ pub fn enter_unit(program: &Accepted, unit: UnitId, registers: &mut Registers, m
     requires points { ⌜ vec-len (now memory .points) ≡ vec-len (now program .formed .program .activation) ⌝ }
     ensures { λ r. ⌜ config-of r (now (registers .exit)) (now (memory .exit)) ≡ enter (program-of (now (program .entry))) unit (memory-of (now (memory .entry))) ⌝ }
 {
-    *registers = clear_registers();
+    *registers = cleared_registers();
     let line = point_of(program, memory, unit);
     arrive_at(program, unit, line, registers, memory)
 }

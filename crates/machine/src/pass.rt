@@ -13,7 +13,7 @@ use crate::memory::Memory;
 use crate::moves::{enter_unit, take_turn};
 use crate::place::Place;
 use lines::registers::Registers;
-use lines::stack::clear_registers;
+use lines::cleared::cleared_registers;
 use lines::step::step;
 use rules::unit::UnitId;
 use verdict::accepted::Accepted;
@@ -44,7 +44,7 @@ pub fn pass(program: &Accepted, module: usize, memory: &mut Memory) -> Passed
     ensures fitting { λ _. ⌜ Fitting (program-of (now (program .entry))) (memory-of (now (memory .exit))) ⌝ }
     ensures whole { λ r. ⌜ (sequential (Module «module») ≡ false → r .whole ≡ true) ⌝ }
 {
-    let mut registers = clear_registers();
+    let mut registers = cleared_registers();
     let mut place = enter_unit(program, UnitId::Module(module), &mut registers, memory);
     let mut steps = 0;
     loop {

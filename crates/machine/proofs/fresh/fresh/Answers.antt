@@ -8,7 +8,7 @@ use Rattle.std.specs.Of.Vec.{vec-items}
 use Rattle.std.proofs.shelf.Lists.{getD-read}
 use Rattle.machine.specs.Views.{program-of}
 use Rattle.machine.proofs.FirstLines.{fresh-parts}
-use Rattle.machine.proofs.fresh.fresh_memory.Needs as need
+use Rattle.machine.proofs.fresh.fresh.Needs as need
 
 pub returns : need.returns
 returns c =
