@@ -2,6 +2,7 @@
 pub mod bits;
 pub mod cleared;
 mod effects;
+pub mod laws;
 mod numbers;
 pub mod registers;
 mod stack;
