@@ -1,0 +1,5 @@
+pub mod Masks
+pub mod Comparisons
+pub mod Cells
+pub mod WidthLines
+pub mod OtherBits

@@ -1,0 +1,3 @@
+pub mod OneBit
+pub mod Widths
+pub mod Views
