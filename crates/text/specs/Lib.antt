@@ -1,1 +1,4 @@
 pub mod Tables
+pub mod Finds
+pub mod Operands
+pub mod Faults
