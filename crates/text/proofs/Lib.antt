@@ -1,3 +1,6 @@
 pub mod Filled
 pub mod Firsts
 pub mod MarkSteps
+pub mod Landing
+pub mod Pairing
+pub mod LeftOver

@@ -4,3 +4,4 @@ pub mod Operands
 pub mod Faults
 pub mod Marks
 pub mod Mechanisms
+pub mod Targets

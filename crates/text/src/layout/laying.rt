@@ -4,7 +4,7 @@ ghost use Prim.Native.Nat.{_<_};
 ghost use Rattle.std.specs.Of.Vec.{vec-len};
 ghost use Rattle.std.specs.Orderings.{Decides};
 ghost use Rattle.std.specs.Vec.{made};
-ghost use Rattle.rules.specs.Program.{unit-of, Own};
+ghost use Rattle.rules.specs.Program.{module-first, unit-of, Own};
 ghost use Rattle.image.specs.Held.{meant};
 use crate::layout::Layout;
 use crate::marks::Marks;
@@ -26,6 +26,14 @@ impl Layout {
         let ends = first_lines(heap, &program, 23)?;
         let Marks { units, flags } = Marks::new(heap, &program, starts.as_slice())?;
         Ok(Layout { program, starts, begins, ends, flags, units })
+    }
+
+    // The first line of a module, or the number of lines for the module after the last.
+    pub(crate) fn start_of(&self, module: usize) -> usize
+        requires { ⌜ «module» < 8 ⌝ }
+        ensures { λ r. ⌜ r ≡ module-first (meant (now (self .entry) .program)) «module» ⌝ }
+    {
+        self.starts[module]
     }
 
     // The unit of a line.
