@@ -20,6 +20,15 @@ names code k x = eqb (x .code) code && eqb (x .operand) k
 abbrev pub Firsts : List Line → ℕ → List ℕ → ℕ → ℕ → Type 0
 Firsts xs code table m i = (k : ℕ) → k < m → getD table k 0 ≡ i + find (names code k) (drop i xs)
 
+-- a first line is found inside the text, or at its end
+pub find-within : (f : Line → Bool) (xs : List Line) → find f xs ≤ length xs
+find-within f [] = omega arith
+find-within f (x ∷ xs) = go (f x) (find-within f xs)
+  where
+    go : (b : Bool) → find f xs ≤ length xs → cond b 0 (1 + find f xs) ≤ length (x ∷ xs)
+    go true ih = omega arith
+    go false ih = omega arith
+
 module _ (xs : List Line) (i : ℕ) (x : Line) (h : i < length xs) (f : Line → Bool) where
   step : x ≡ getD xs i x → find f (drop i xs) ≡ cond (f x) 0 (1 + find f (drop (i + 1) xs))
   step e = at-drop-more (find f) xs i x h ∙ ap (λ y. find f (y ∷ drop (i + 1) xs)) (sym e)

@@ -28,6 +28,7 @@ use Rattle.theory.proofs.Units.{own-module, make-module}
 use Rattle.text.specs.Finds.{Finds}
 use Rattle.text.specs.Mechanisms.{Unpaired, Misses}
 use Rattle.text.specs.Tables.{Begins-are}
+use Rattle.text.proofs.Firsts.{find-within}
 use Rattle.text.proofs.Pairing.{begun-by, begun-there}
 
 -- MECHANISMS THAT ARE LEFT OPEN
@@ -61,14 +62,6 @@ module _ (p : Program) (all : total (p .lengths) ≡ length (p .lines)) (seven :
   shut-when-empty e = (λ q. absurd (true≢false (sym q)), λ n. absurd (n (ap (open-at p) (sym e) ∙ open-first p)))
 
 -- MECHANISMS THAT ARE BEGUN NOWHERE
-
-find-within : (f : Line → Bool) (xs : List Line) → find f xs ≤ length xs
-find-within f [] = omega arith
-find-within f (x ∷ xs) = go (f x) (find-within f xs)
-  where
-    go : (b : Bool) → find f xs ≤ length xs → cond b 0 (1 + find f xs) ≤ length (x ∷ xs)
-    go true ih = omega arith
-    go false ih = omega arith
 
 pub missing : (p : Program) (begins : List ℕ) (n : ℕ) (r : Bool) → length begins ≡ length (p .activation) → n ≡ length (p .lines) → Begins-are p begins → Some-of (λ (y : ℕ) (t : Bool). Decides t (y ≡ n)) begins r → Decides r (Misses p)
 missing p begins n r long count are h = decides-like r to from (has-from-contains begins n r h)

@@ -4,3 +4,4 @@ pub mod MarkSteps
 pub mod Landing
 pub mod Pairing
 pub mod LeftOver
+pub mod Breaches

@@ -5,3 +5,5 @@ pub mod Faults
 pub mod Marks
 pub mod Mechanisms
 pub mod Targets
+pub mod Verdicts
+pub mod Views

@@ -1,8 +1,10 @@
 // The text of a program, checked line by line.
 pub mod fault;
 pub mod formed;
+pub mod forming;
 mod layout;
-pub mod lines;
+mod lines;
 mod marks;
-pub mod operand;
+mod operand;
+pub mod span;
 mod tables;
