@@ -1,6 +1,6 @@
 -- Which rule a breach is of, and the refusal that is given once the rules before it are tested. Assumes nothing.
-use mathlib.Core.Path.{_≡_, refl, sym, ap, _∙_, subst}
-use mathlib.Core.Bool.{Bool, true, false, cond}
+use mathlib.Core.Path.{_≡_, refl, ap, _∙_, subst}
+use mathlib.Core.Bool.{true, false}
 use mathlib.Core.Logic.{_⊎_, inl, inr}
 use Prim.Native.Nat.{ℕ, _+_, _<_, _≤_}
 use native.Mathlib.Omega.{arith}
@@ -9,8 +9,7 @@ use lib.ListN.{length}
 use Rattle.std.specs.declared.option.Option.{Option}
 use Rattle.std.specs.declared.option.Option.the-variants.{Some, None}
 use Rattle.std.proofs.shelf.Tests.{cases-eq, cases-lt, eqb-true, cases-bool, cond-true, cond-false}
-use Rattle.rules.specs.declared.line.Line.{Line}
-use Rattle.rules.specs.Op.{Op, mech-begin, is-begin, plain, decode}
+use Rattle.rules.specs.Op.{Op, mech-begin, plain, decode}
 use Rattle.rules.specs.Program.{Program, line-at, op-at}
 use Rattle.rules.specs.Form.{Reaches, Unknown, Bad-operand, Bad-mechanism, Bad-jump, Bad-exit, Bad-init}
 use Rattle.rules.specs.Verdict.{Breaks, by-unknown-line, by-bad-operand, by-bad-mechanism, by-bad-jump, by-bad-exit, by-bad-init, by-bad-depth, by-uninitialised, Text-refused}

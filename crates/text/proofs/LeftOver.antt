@@ -1,26 +1,25 @@
 -- What is left over at MAIN's end: a mechanism that is open, or one that is begun nowhere. Assumes nothing.
 use mathlib.Core.Path.{_≡_, refl, sym, ap, _∙_, subst}
 use mathlib.Core.Bool.{Bool, true, false, cond, not, _&&_}
-use mathlib.Core.List.{List, [], _∷_}
+use mathlib.Core.List.{List}
 use mathlib.Core.Logic.{_⊎_, inl, inr}
 use Prim.Native.Nat.{ℕ, min, _+_, _<_, _≤_}
 use native.Mathlib.Omega.{arith}
-use lib.Dec.{eqb, lit<}
-use lib.ListN.{length, getD}
+use lib.Dec.{eqb}
+use lib.ListN.{length}
 use Rattle.std.specs.Options.{valueOr}
 use Rattle.std.specs.Orderings.{Decides}
 use Rattle.std.specs.Places.{Some-of, At}
 use Rattle.std.specs.declared.option.Option.{Option}
 use Rattle.std.specs.declared.option.Option.the-variants.{Some, None}
-use Rattle.std.proofs.shelf.Tests.{cases-lt, both-ways, true≢false}
+use Rattle.std.proofs.shelf.Tests.{cases-lt, true≢false}
 use Rattle.std.proofs.shelf.Ways.{decides-like}
 use Rattle.std.proofs.shelf.Elements.{has-from-contains}
 use Rattle.std.proofs.shelf.Lists.{getD-default}
-use Rattle.rules.specs.declared.line.Line.{Line}
 use Rattle.rules.specs.declared.unit.UnitId.the-variants.{Module}
 use Rattle.rules.specs.Op.{is-begin, is-end}
-use Rattle.rules.specs.Program.{Program, Own, total, line-at, main-module, module-first, module-end, module-of, open-at, find, begin-line}
-use Rattle.rules.specs.Form.{Begun, Left-over, Bad-mechanism}
+use Rattle.rules.specs.Program.{Program, Own, total, line-at, main-module, module-first, module-end, module-of, open-at, begin-line}
+use Rattle.rules.specs.Form.{Left-over, Bad-mechanism}
 use Rattle.theory.proofs.Text.{open-more, open-first, module-is, end-within}
 use Rattle.theory.proofs.Orderly.{clash}
 use Rattle.theory.proofs.Spans.{next-begin, next-end, next-quiet, begins-not-ends}

@@ -1,19 +1,18 @@
 -- Lines that begin and end mechanisms, against the units of the lines and the first MECH_BEGIN of each mechanism. Assumes nothing.
-use mathlib.Core.Path.{_≡_, refl, sym, ap, _∙_}
-use mathlib.Core.Bool.{Bool, true, false, _&&_}
-use mathlib.Core.List.{List, [], _∷_}
+use mathlib.Core.Path.{_≡_, refl, ap}
+use mathlib.Core.Bool.{true, false, _&&_}
 use mathlib.Core.Logic.{_⊎_, inl, inr}
-use Prim.Native.Nat.{ℕ, _+_, _<_, _≤_}
+use Prim.Native.Nat.{ℕ, _<_, _≤_}
 use native.Mathlib.Omega.{arith}
 use lib.Dec.{eqb}
 use lib.ListN.{length}
 use Rattle.std.specs.declared.option.Option.the-variants.{Some, None}
-use Rattle.std.proofs.shelf.Tests.{cases-eq, cases-lt, eqb-true, eq-eqb, and-from, and-parts, both-ways}
+use Rattle.std.proofs.shelf.Tests.{cases-eq, eqb-true, eq-eqb, and-from, and-parts, both-ways}
 use Rattle.rules.specs.declared.line.Line.{Line}
 use Rattle.rules.specs.declared.unit.UnitId.the-variants.{Module, Mechanism}
 use Rattle.rules.specs.Op.{is-begin, is-end}
 use Rattle.rules.specs.Program.{Program, Own, no-line, line-at, main-module, module-of, open-at, begin-line}
-use Rattle.rules.specs.Form.{Begun, Bad-begin, Bad-end}
+use Rattle.rules.specs.Form.{Begun}
 use Rattle.theory.proofs.Spans.{find-least, find-there, begins-not-ends}
 use Rattle.theory.proofs.Units.{own-module, own-mechanism, make-module, make-mechanism}
 use Rattle.text.specs.Mechanisms.{Unpaired}

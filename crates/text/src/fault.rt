@@ -36,7 +36,11 @@ impl TextFault {
             TextFault::BadDepth(line) => (Rule::BadDepth, line),
             TextFault::Uninitialised(module) => (Rule::Uninitialised, module),
         };
-        Refusal { rule, layer: Layer::Text, place }
+        Refusal {
+            rule,
+            layer: Layer::Text,
+            place,
+        }
     }
 }
 

@@ -55,6 +55,20 @@ pub fn form(heap: Global, program: Program) -> Result<Formed, CheckFault>
     check_lines(&program)?;
     let layout = Layout::new(heap, program)?;
     check_layout(&layout)?;
-    let Layout { program, starts, begins, ends, flags, units } = layout;
-    Ok(Formed { program, starts, begins, ends, flags, units })
+    let Layout {
+        program,
+        starts,
+        begins,
+        ends,
+        flags,
+        units,
+    } = layout;
+    Ok(Formed {
+        program,
+        starts,
+        begins,
+        ends,
+        flags,
+        units,
+    })
 }

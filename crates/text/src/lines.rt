@@ -24,7 +24,11 @@ fn is_width(mode: u8) -> bool
 fn operand_of(line: Line) -> Option<Operand>
     ensures { λ r. ⌜ r ≡ mapped operand-of (decode line) ⌝ }
 {
-    let Line { code, mode, operand: _ } = line;
+    let Line {
+        code,
+        mode,
+        operand: _,
+    } = line;
     match code {
         1 | 7..=8 if mode < 2 => Some(Operand::Bit),
         2..=4 if mode < 2 => Some(Operand::Bit),

@@ -28,7 +28,11 @@ pub(crate) fn starts(heap: Global, program: &Program) -> Result<Vec<usize>, Allo
 }
 
 // The first line of a code that names each mechanism, or the number of lines where there is none.
-pub(crate) fn first_lines(heap: Global, program: &Program, code: u8) -> Result<Vec<usize>, AllocError>
+pub(crate) fn first_lines(
+    heap: Global,
+    program: &Program,
+    code: u8,
+) -> Result<Vec<usize>, AllocError>
     ensures { λ r. ⌜ made r (λ v. (vec-len v ≡ vec-len (now (program .entry) .activation)) × ((k : ℕ) → k < vec-len (now (program .entry) .activation) → getD (vec-items v) k 0 ≡ find (λ x. eqb (x .code) code && eqb (x .operand) k) (vec-items (now (program .entry) .lines)))) ⌝ }
 {
     let count = program.lines.len();

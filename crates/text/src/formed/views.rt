@@ -31,7 +31,10 @@ impl Formed {
         }
         let begin = self.begins[k];
         let last = self.ends[k];
-        Some(Span { first: begin + 1, end: last + 1 })
+        Some(Span {
+            first: begin + 1,
+            end: last + 1,
+        })
     }
 
     /// The first line and the end of a unit, or none where the program has no such unit.
@@ -48,20 +51,32 @@ impl Formed {
     pub fn unit_of(&self, line: usize) -> Option<UnitId>
         ensures { λ r. ⌜ r ≡ at-line (meant (now (self .entry) .program)) line (unit-of (meant (now (self .entry) .program)) line) ⌝ }
     {
-        if line < self.units.len() { Some(self.units[line]) } else { None }
+        if line < self.units.len() {
+            Some(self.units[line])
+        } else {
+            None
+        }
     }
 
     /// The text flag at a line, or none where the text has no such line.
     pub fn flag_at(&self, line: usize) -> Option<bool>
         ensures { λ r. ⌜ r ≡ at-line (meant (now (self .entry) .program)) line (flag-at (meant (now (self .entry) .program)) line) ⌝ }
     {
-        if line < self.flags.len() { Some(self.flags[line]) } else { None }
+        if line < self.flags.len() {
+            Some(self.flags[line])
+        } else {
+            None
+        }
     }
 
     /// A line by its number, or none where the text has no such line.
     pub fn line(&self, line: usize) -> Option<Line>
         ensures { λ r. ⌜ r ≡ at-line (meant (now (self .entry) .program)) line (line-at (meant (now (self .entry) .program)) line) ⌝ }
     {
-        if line < self.program.lines.len() { Some(self.program.lines[line]) } else { None }
+        if line < self.program.lines.len() {
+            Some(self.program.lines[line])
+        } else {
+            None
+        }
     }
 }

@@ -3,7 +3,7 @@ ghost use mathlib.Core.Path.{_≡_};
 ghost use Prim.Native.Nat.{_<_};
 ghost use Rattle.std.specs.Of.Vec.{vec-len};
 ghost use Rattle.std.specs.Orderings.{Decides};
-ghost use Rattle.rules.specs.Op.{is-exit, is-init};
+ghost use Rattle.rules.specs.Op.{is-exit};
 ghost use Rattle.rules.specs.Program.{sequential};
 ghost use Rattle.rules.specs.Form.{Bad-exit, Bad-init};
 ghost use Rattle.image.specs.Held.{meant};
@@ -43,7 +43,9 @@ impl Layout {
         requires { ⌜ line < vec-len (now self .program .lines) ⌝ }
         ensures { λ r. ⌜ Decides r (Bad-init (meant (now (self .entry) .program)) line) ⌝ }
     {
-        self.program.lines[line].code == 24 && !self.owns(UnitId::Module(4), line) && !self.owns(UnitId::Module(5), line)
+        self.program.lines[line].code == 24
+            && !self.owns(UnitId::Module(4), line)
+            && !self.owns(UnitId::Module(5), line)
     }
 
     // The first EX-type line outside the sequential units.

@@ -25,7 +25,14 @@ impl Layout {
         let begins = first_lines(heap, &program, 22)?;
         let ends = first_lines(heap, &program, 23)?;
         let Marks { units, flags } = Marks::new(heap, &program, starts.as_slice())?;
-        Ok(Layout { program, starts, begins, ends, flags, units })
+        Ok(Layout {
+            program,
+            starts,
+            begins,
+            ends,
+            flags,
+            units,
+        })
     }
 
     // The first line of a module, or the number of lines for the module after the last.

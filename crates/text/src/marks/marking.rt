@@ -50,7 +50,11 @@ fn main_or(opened: Option<usize>) -> UnitId
 
 impl Marks {
     // The marks of all lines, from the first line of each module.
-    pub(crate) fn new(heap: Global, program: &Program, starts: &[usize]) -> Result<Marks, AllocError>
+    pub(crate) fn new(
+        heap: Global,
+        program: &Program,
+        starts: &[usize],
+    ) -> Result<Marks, AllocError>
         requires count { ⌜ length (now starts) ≡ 8 ⌝ }
         requires are { ⌜ Starts-are (meant (now program)) (now starts) ⌝ }
         ensures { λ r. ⌜ made r (λ m. Marked (meant (now (program .entry))) m (vec-len (now (program .entry) .lines))) ⌝ }
@@ -66,7 +70,13 @@ impl Marks {
     }
 
     // Goes through the lines of a module, which finds the text flag clear and no mechanism open.
-    fn mark_module(&mut self, program: &Program, module: usize, first: usize, end: usize) -> Result<(), AllocError>
+    fn mark_module(
+        &mut self,
+        program: &Program,
+        module: usize,
+        first: usize,
+        end: usize,
+    ) -> Result<(), AllocError>
         requires module { ⌜ «module» < 7 ⌝ }
         requires first { ⌜ first ≡ module-first (meant (now program)) «module» ⌝ }
         requires end { ⌜ end ≡ module-end (meant (now program)) «module» ⌝ }
@@ -77,7 +87,11 @@ impl Marks {
         let mut flag = false;
         for i in first..end {
             let line = program.lines[i];
-            let unit = if module == 3 { main_or(opened) } else { UnitId::Module(module) };
+            let unit = if module == 3 {
+                main_or(opened)
+            } else {
+                UnitId::Module(module)
+            };
             self.units.push(unit)?;
             self.flags.push(flag)?;
             opened = open_after(opened, line);

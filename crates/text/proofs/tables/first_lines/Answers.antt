@@ -1,6 +1,6 @@
 use borrow.Author.Needs.{needs}
 use mathlib.Core.Path.{_≡_, sym, ap, _∙_, subst}
-use Prim.Native.Nat.{ℕ, _+_, _-_, _<_}
+use Prim.Native.Nat.{ℕ, _-_}
 use native.Mathlib.Omega.{arith}
 use lib.ListN.{length, replicate}
 use Rattle.std.specs.Of.Vec.{vec-items, vec-len}
@@ -21,20 +21,18 @@ pub loop-i-again-then-k-len : need.loop-i-again-then-k-len
 loop-i-again-then-k-len c =
     let n = c .args .program .now .lines .ok .0 in
     let long = c .loop-i .table .ok .0 in
-    let inv = c .loop-i .inv .0 in
-    (
+    let inv = c .loop-i .inv .0 in (
       search needs,
       first-set (vec-items (c .args .program .now .lines)) (c .args .code) (vec-items (c .loop-i .table)) (vec-len (c .args .program .now .activation)) (c .loop-i .i) (c .loop-i .i - 1) (c .index-line .result .now)
-      (omega arith) (c .index-line .ensures) (omega arith) (c .loop-i .inv .1) (c .from-k .result) (c .from-k .ensures) (omega arith) (c .if-line-code .taken),
+          (omega arith) (c .index-line .ensures) (omega arith) (c .loop-i .inv .1) (c .from-k .result) (c .from-k .ensures) (omega arith) (c .if-line-code .taken),
     )
 
 pub loop-i-again : need.loop-i-again
 loop-i-again c =
     let n = c .args .program .now .lines .ok .0 in
-    let inv = c .loop-i .inv .0 in
-    (
+    let inv = c .loop-i .inv .0 in (
       search needs,
       first-kept (vec-items (c .args .program .now .lines)) (c .args .code) (vec-items (c .loop-i .table)) (vec-len (c .args .program .now .activation)) (c .loop-i .i) (c .loop-i .i - 1) (c .index-line .result .now)
-      (omega arith) (c .index-line .ensures) (omega arith) (c .loop-i .inv .1)
-      (λ same below. elim (c .else-line-code .came) [ else-line-code·by·then-line-code·else-k-len w ↦ (let a = w .if-k-len .left in let b = w .len-then-line-code .ensures in let d = c .from-k .ensures in omega arith) | else-line-code·by·else-line-code w ↦ w .if-line-code .left same ]),
+          (omega arith) (c .index-line .ensures) (omega arith) (c .loop-i .inv .1)
+          (λ same below. elim (c .else-line-code .came) [ else-line-code·by·then-line-code·else-k-len w ↦ (let a = w .if-k-len .left in let b = w .len-then-line-code .ensures in let d = c .from-k .ensures in omega arith) | else-line-code·by·else-line-code w ↦ w .if-line-code .left same ]),
     )

@@ -1,16 +1,14 @@
-use borrow.Author.Needs.{needs}
-use mathlib.Core.Path.{_≡_, refl, sym, ap, _∙_, subst}
-use mathlib.Core.Bool.{Bool, true, false, not}
-use Prim.Native.Nat.{ℕ, _+_, _-_, _<_, _≤_}
+use mathlib.Core.Path.{_≡_, sym, ap, _∙_, subst}
+use mathlib.Core.Bool.{Bool, not}
+use Prim.Native.Nat.{_+_, _-_, _≤_}
 use native.Mathlib.Omega.{arith}
-use lib.Dec.{eqb}
 use lib.ListN.{length}
-use Rattle.std.specs.Of.Vec.{vec-items, vec-len}
+use Rattle.std.specs.Of.Vec.{vec-items}
 use Rattle.std.specs.Orderings.{Decides}
 use Rattle.std.proofs.shelf.Tests.{eq-eqb, ne-eqb}
 use Rattle.std.proofs.shelf.Lists.{getD-read}
 use Rattle.rules.specs.Op.{is-begin, is-end}
-use Rattle.rules.specs.Program.{Program, no-line, line-at, total, main-module, module-first, module-end}
+use Rattle.rules.specs.Program.{no-line, line-at, total, main-module, module-first, module-end}
 use Rattle.image.specs.Held.{meant}
 use Rattle.theory.proofs.Text.{first-end, end-within}
 use Rattle.text.proofs.LeftOver.{Open-end, open-by-begin, shut-by-end, open-by-unit}

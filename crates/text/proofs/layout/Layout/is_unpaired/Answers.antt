@@ -1,12 +1,10 @@
-use borrow.Author.Needs.{needs}
-use mathlib.Core.Path.{_≡_, sym, ap, _∙_, subst}
-use mathlib.Core.Bool.{true, false}
-use mathlib.Core.Logic.{_⊎_, inl, inr}
-use Prim.Native.Nat.{ℕ, _<_}
+use mathlib.Core.Path.{_≡_, sym, ap, _∙_}
+use mathlib.Core.Bool.{true}
+use mathlib.Core.Logic.{inl, inr}
+use Prim.Native.Nat.{_<_}
 use native.Mathlib.Omega.{arith}
-use lib.Dec.{ltb, eqb}
 use lib.ListN.{length}
-use Rattle.std.specs.Of.Vec.{vec-items, vec-len}
+use Rattle.std.specs.Of.Vec.{vec-items}
 use Rattle.std.proofs.shelf.Tests.{ltb-true, lt-ltb, cases-lt, eq-eqb}
 use Rattle.std.proofs.shelf.Lists.{getD-read}
 use Rattle.rules.specs.Op.{is-begin}
@@ -50,8 +48,7 @@ returns-else-not-owns c =
     let a = s .begins .ok .0 in
     let e = s .«begins_count» in
     let b = below d in
-    let first : c .index .result .now ≡ begin-line p (line-at p l .operand) = getD-read (vec-items (s .begins)) (c .from-k .result) (c .index .result .now) (omega arith) (c .index .ensures) 0 ∙ s .«begins_are» (c .from-k .result) (omega arith) ∙ ap (begin-line p) (number d) in
-    (
+    let first : c .index .result .now ≡ begin-line p (line-at p l .operand) = getD-read (vec-items (s .begins)) (c .from-k .result) (c .index .result .now) (omega arith) (c .index .ensures) 0 ∙ s .«begins_are» (c .from-k .result) (omega arith) ∙ ap (begin-line p) (number d) in (
       (λ t. bad-begin-again p l (inside d) (begins d) (let u = ltb-true (c .index .result .now) l t in omega arith)),
       (λ u. elim (cases-lt (c .index .result .now) l) [ inl h ↦ lt-ltb (c .index .result .now) l h | inr h ↦ absurd (good-begin p l (inside d) (begins d) (c .owns .ensures .0 (c .if-not-owns .left)) (omega arith) u) ]),
     )

@@ -1,12 +1,10 @@
-use borrow.Author.Needs.{needs}
-use mathlib.Core.Path.{_≡_, sym, ap, _∙_, subst}
-use Prim.Native.Nat.{ℕ, _+_, _<_, _≤_}
+use mathlib.Core.Path.{_≡_, ap, _∙_, subst}
+use Prim.Native.Nat.{ℕ, _<_, _≤_}
 use native.Mathlib.Omega.{arith}
 use lib.ListN.{length}
-use Rattle.std.specs.Of.Vec.{vec-items, vec-len}
 use Rattle.std.specs.declared.option.Option.the-variants.{None}
 use Rattle.std.proofs.shelf.Lists.{getD-read}
-use Rattle.rules.specs.Program.{Program, no-line, line-at, module-of, module-first, module-end, open-after, flag-after, stretch, unit-of}
+use Rattle.rules.specs.Program.{no-line, line-at, module-of, module-first, open-after, flag-after, stretch, unit-of}
 use Rattle.image.specs.Held.{meant}
 use Rattle.theory.proofs.Text.{end-within, first-end, module-is}
 use Rattle.text.specs.Marks.{Marked}
@@ -40,10 +38,9 @@ loop-i-again c =
     let inv = c .loop-i .inv in
     let opened : c .loop-i .opened ≡ open-after None (stretch (p .lines) (module-first p m) i) = inv .1 ∙ ap (λ (f : ℕ). open-after None (stretch (p .lines) f i)) (c .pre .first) in
     let flagged = inv .2 ∙ ap (λ (f : ℕ). flag-after _ (stretch (p .lines) f i)) (c .pre .first) in
-    let unit : c .if-module-eq3 .unit ≡ unit-of p i = elim (c .if-module-eq3 .came) [ then-module-eq3 w ↦ w .unit-is ∙ w .main-or-unit .ensures ∙ unit-in-main p m i here (c .loop-i .opened) (w .if-module-eq3 .taken) opened | else-module-eq3 w ↦ w .unit-is ∙ unit-elsewhere p m i here (w .if-module-eq3 .left) ] in
-    (
+    let unit : c .if-module-eq3 .unit ≡ unit-of p i = elim (c .if-module-eq3 .came) [ then-module-eq3 w ↦ w .unit-is ∙ w .main-or-unit .ensures ∙ unit-in-main p m i here (c .loop-i .opened) (w .if-module-eq3 .taken) opened | else-module-eq3 w ↦ w .unit-is ∙ unit-elsewhere p m i here (w .if-module-eq3 .left) ] in (
       marked-more p (c .loop-i .self) (record { units = c .push .last .self; flags = c .push-in-loop-i .last .self }) i (c .if-module-eq3 .unit) (c .loop-i .flag) (inv .0)
-      (c .in-Continue-push .ensures tt .items) (c .in-Continue-push-2 .ensures tt .items) (c .in-Continue-push .ensures tt .len) (c .in-Continue-push-2 .ensures tt .len) unit (flag-is p m i here (c .loop-i .flag) flagged),
+          (c .in-Continue-push .ensures tt .items) (c .in-Continue-push-2 .ensures tt .items) (c .in-Continue-push .ensures tt .len) (c .in-Continue-push-2 .ensures tt .len) unit (flag-is p m i here (c .loop-i .flag) flagged),
       c .open-after-opened .ensures ∙ opened-more p (c .args .first) i x from inside there (c .loop-i .opened) (inv .1),
       c .flag-after-flag .ensures ∙ flagged-more p (c .args .first) i x from inside there (c .loop-i .flag) (inv .2),
     )

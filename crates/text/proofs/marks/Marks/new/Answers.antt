@@ -1,10 +1,9 @@
 use mathlib.Core.Path.{_≡_, ap, _∙_, subst}
-use Prim.Native.Nat.{ℕ, _≤_}
+use Prim.Native.Nat.{ℕ}
 use native.Mathlib.Omega.{arith}
-use lib.ListN.{length, take}
-use Rattle.std.specs.Of.Vec.{vec-items, vec-len}
+use lib.ListN.{take}
 use Rattle.std.proofs.shelf.Lists.{take-all}
-use Rattle.rules.specs.Program.{total, module-first}
+use Rattle.rules.specs.Program.{total}
 use Rattle.image.specs.Held.{meant}
 use Rattle.text.specs.Marks.{Marked}
 use Rattle.text.proofs.marks.Marks.new.Needs as need
