@@ -5,6 +5,7 @@ pub mod forming;
 mod layout;
 mod lines;
 mod marks;
+mod numbers;
 mod operand;
 pub mod span;
 mod tables;

@@ -30,14 +30,22 @@ fn operand_of(line: Line) -> Option<Operand>
         operand: _,
     } = line;
     match code {
+        // LDR, FL and FL1
         1 | 7..=8 if mode < 2 => Some(Operand::Bit),
+        // LA, LO and LX, of which mode 2 uses a popped cell
         2..=4 if mode < 2 => Some(Operand::Bit),
         2..=4 if mode == 2 => Some(Operand::Nothing),
+        // WR
         6 if mode == 0 => Some(Operand::Bit),
+        // CA, EX, EX0 and EX1
         5 | 11..=13 if mode == 0 => Some(Operand::Nothing),
+        // JL0 and JL1
         9..=10 if mode == 0 => Some(Operand::Target),
+        // LOD, STO, AD and GE
         16..=17 | 19 | 21 if is_width(mode) => Some(Operand::Number(usize::from(mode))),
+        // ABS
         20 if is_width(mode) => Some(Operand::Nothing),
+        // MECH_BEGIN, MECH_END and MECH_INIT
         22..=24 if mode == 0 => Some(Operand::Mechanism),
         _ => None,
     }

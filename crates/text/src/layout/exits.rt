@@ -9,6 +9,14 @@ ghost use Rattle.rules.specs.Form.{Bad-exit, Bad-init};
 ghost use Rattle.image.specs.Held.{meant};
 ghost use Rattle.text.specs.Finds.{Finds};
 use crate::layout::Layout;
+use crate::numbers::BLOCK_DONE;
+use crate::numbers::BLOCK_INIT;
+use crate::numbers::CLEAR;
+use crate::numbers::EX;
+use crate::numbers::EX0;
+use crate::numbers::EX1;
+use crate::numbers::INIT;
+use crate::numbers::MECH_INIT;
 use rules::line::Line;
 use rules::unit::UnitId;
 
@@ -16,7 +24,7 @@ use rules::unit::UnitId;
 fn is_exit(line: Line) -> bool
     ensures { λ r. ⌜ r ≡ is-exit line ⌝ }
 {
-    line.code == 11 || line.code == 12 || line.code == 13
+    line.code == EX || line.code == EX0 || line.code == EX1
 }
 
 // Whether a unit is sequential: BLOCK_INIT, BLOCK_DONE or a mechanism.
@@ -24,7 +32,7 @@ fn is_sequential(unit: UnitId) -> bool
     ensures { λ r. ⌜ r ≡ sequential unit ⌝ }
 {
     match unit {
-        UnitId::Module(m) => m == 1 || m == 2,
+        UnitId::Module(m) => m == BLOCK_INIT || m == BLOCK_DONE,
         UnitId::Mechanism(_) => true,
     }
 }
@@ -43,9 +51,9 @@ impl Layout {
         requires { ⌜ line < vec-len (now self .program .lines) ⌝ }
         ensures { λ r. ⌜ Decides r (Bad-init (meant (now (self .entry) .program)) line) ⌝ }
     {
-        self.program.lines[line].code == 24
-            && !self.owns(UnitId::Module(4), line)
-            && !self.owns(UnitId::Module(5), line)
+        self.program.lines[line].code == MECH_INIT
+            && !self.owns(UnitId::Module(INIT), line)
+            && !self.owns(UnitId::Module(CLEAR), line)
     }
 
     // The first EX-type line outside the sequential units.

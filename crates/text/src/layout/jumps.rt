@@ -9,6 +9,8 @@ ghost use Rattle.image.specs.Held.{meant};
 ghost use Rattle.text.specs.Finds.{Finds};
 ghost use Rattle.text.specs.Targets.{Numbered};
 use crate::layout::Layout;
+use crate::numbers::JL0;
+use crate::numbers::JL1;
 use rules::line::Line;
 use rules::unit::UnitId;
 
@@ -16,7 +18,7 @@ use rules::unit::UnitId;
 fn is_jump(line: Line) -> bool
     ensures { λ r. ⌜ r ≡ is-jump line ⌝ }
 {
-    line.code == 9 || line.code == 10
+    line.code == JL0 || line.code == JL1
 }
 
 impl Layout {

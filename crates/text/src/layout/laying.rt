@@ -8,6 +8,8 @@ ghost use Rattle.rules.specs.Program.{module-first, unit-of, Own};
 ghost use Rattle.image.specs.Held.{meant};
 use crate::layout::Layout;
 use crate::marks::Marks;
+use crate::numbers::MECH_BEGIN;
+use crate::numbers::MECH_END;
 use crate::tables::first_lines;
 use crate::tables::starts;
 use image::program::Program;
@@ -22,8 +24,8 @@ impl Layout {
         ensures { λ r. ⌜ made r (λ v. v .program ≡ program) ⌝ }
     {
         let starts = starts(heap, &program)?;
-        let begins = first_lines(heap, &program, 22)?;
-        let ends = first_lines(heap, &program, 23)?;
+        let begins = first_lines(heap, &program, MECH_BEGIN)?;
+        let ends = first_lines(heap, &program, MECH_END)?;
         let Marks { units, flags } = Marks::new(heap, &program, starts.as_slice())?;
         Ok(Layout {
             program,

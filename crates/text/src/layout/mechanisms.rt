@@ -10,6 +10,9 @@ ghost use Rattle.image.specs.Held.{meant};
 ghost use Rattle.text.specs.Finds.{Finds};
 ghost use Rattle.text.specs.Mechanisms.{Named, Unpaired, Misses};
 use crate::layout::Layout;
+use crate::numbers::MAIN;
+use crate::numbers::MECH_BEGIN;
+use crate::numbers::MECH_END;
 use rules::unit::UnitId;
 
 impl Layout {
@@ -23,8 +26,8 @@ impl Layout {
         let pairing = self.program.lines[line];
         let k = usize::from(pairing.operand);
         match pairing.code {
-            22 => !self.owns(UnitId::Module(3), line) || self.begins[k] < line,
-            23 => !self.owns(UnitId::Mechanism(k), line),
+            MECH_BEGIN => !self.owns(UnitId::Module(MAIN), line) || self.begins[k] < line,
+            MECH_END => !self.owns(UnitId::Mechanism(k), line),
             _ => false,
         }
     }
@@ -46,16 +49,16 @@ impl Layout {
     fn is_left_open(&self) -> bool
         ensures { λ r. ⌜ Decides r (open-at (meant (now (self .entry) .program)) (module-end (meant (now (self .entry) .program)) main-module) ≡ None → ⊥) ⌝ }
     {
-        let first = self.start_of(3);
-        let end = self.start_of(4);
+        let first = self.start_of(MAIN);
+        let end = self.start_of(MAIN + 1);
         if first == end {
             return false;
         }
         let last = self.program.lines[end - 1];
-        if last.code == 22 {
+        if last.code == MECH_BEGIN {
             return true;
         }
-        last.code != 23 && !self.owns(UnitId::Module(3), end - 1)
+        last.code != MECH_END && !self.owns(UnitId::Module(MAIN), end - 1)
     }
 
     // Whether some mechanism is begun nowhere.
@@ -82,7 +85,7 @@ impl Layout {
         if !self.is_left_over() {
             return unpaired;
         }
-        let end = self.start_of(4);
+        let end = self.start_of(MAIN + 1);
         Some(unpaired.unwrap_or(end).min(end))
     }
 }

@@ -10,6 +10,9 @@ ghost use Rattle.image.specs.Held.{meant};
 ghost use Rattle.text.specs.Marks.{Marked};
 ghost use Rattle.text.specs.Tables.{Starts-are};
 use crate::marks::Marks;
+use crate::numbers::MAIN;
+use crate::numbers::MECH_BEGIN;
+use crate::numbers::MECH_END;
 use image::program::Program;
 use rules::line::Line;
 use rules::unit::UnitId;
@@ -21,8 +24,8 @@ fn open_after(opened: Option<usize>, line: Line) -> Option<usize>
     ensures { λ r. ⌜ r ≡ open-after opened (line ∷ []) ⌝ }
 {
     match line.code {
-        22 => Some(usize::from(line.operand)),
-        23 => None,
+        MECH_BEGIN => Some(usize::from(line.operand)),
+        MECH_END => None,
         _ => opened,
     }
 }
@@ -43,7 +46,7 @@ fn main_or(opened: Option<usize>) -> UnitId
     ensures { λ r. ⌜ r ≡ main-or opened ⌝ }
 {
     match opened {
-        None => UnitId::Module(3),
+        None => UnitId::Module(MAIN),
         Some(k) => UnitId::Mechanism(k),
     }
 }
@@ -87,7 +90,7 @@ impl Marks {
         let mut flag = false;
         for i in first..end {
             let line = program.lines[i];
-            let unit = if module == 3 {
+            let unit = if module == MAIN {
                 main_or(opened)
             } else {
                 UnitId::Module(module)

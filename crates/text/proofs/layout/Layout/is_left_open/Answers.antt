@@ -45,20 +45,20 @@ module _ (c : After-index-last) where
       let b = last in
       getD-read (vec-items (c .args .self .now .program .lines)) (c .start-of-end .result - 1) (c .index-last .result .now) (omega arith) (c .index-last .ensures) no-line
 
-pub returns-then-last-eq22 : need.returns-then-last-eq22
-returns-then-last-eq22 c =
-    let d = need.at·returns-then-last-eq22 c .After-index-last in
-    open-by-begin (meant (c .args .self .now .program)) (all d) (seven d) (c .start-of-end .result - 1) (from d) (last d) (ap is-begin (sym (there d)) ∙ eq-eqb (c .index-last .result .now .code) 22 (c .if-last-eq22 .taken))
+pub returns-then-last-eq-MECH-BEGIN : need.returns-then-last-eq-MECH-BEGIN
+returns-then-last-eq-MECH-BEGIN c =
+    let d = need.at·returns-then-last-eq-MECH-BEGIN c .After-index-last in
+    open-by-begin (meant (c .args .self .now .program)) (all d) (seven d) (c .start-of-end .result - 1) (from d) (last d) (ap is-begin (sym (there d)) ∙ eq-eqb (c .index-last .result .now .code) 22 (c .if-last-eq-MECH-BEGIN .taken))
 
-pub returns-then-last-ne23 : need.returns-then-last-ne23
-returns-then-last-ne23 c =
-    let d = need.at·returns-then-last-ne23 c .After-index-last in
+pub returns-then-last-ne-MECH-END : need.returns-then-last-ne-MECH-END
+returns-then-last-ne-MECH-END c =
+    let d = need.at·returns-then-last-ne-MECH-END c .After-index-last in
     open-by-unit (meant (c .args .self .now .program)) (all d) (seven d) (c .start-of-end .result - 1) (from d) (last d) (c .owns .result) (c .owns .ensures)
-    (ap is-begin (sym (there d)) ∙ ne-eqb (c .index-last .result .now .code) 22 (c .if-last-eq22 .left)) (ap is-end (sym (there d)) ∙ ne-eqb (c .index-last .result .now .code) 23 (c .if-last-ne23 .taken))
+    (ap is-begin (sym (there d)) ∙ ne-eqb (c .index-last .result .now .code) 22 (c .if-last-eq-MECH-BEGIN .left)) (ap is-end (sym (there d)) ∙ ne-eqb (c .index-last .result .now .code) 23 (c .if-last-ne-MECH-END .taken))
 
-pub returns-else-last-ne23 : need.returns-else-last-ne23
-returns-else-last-ne23 c =
-    let d = need.at·returns-else-last-ne23 c .After-index-last in
-    let e = eq-eqb (c .index-last .result .now .code) 23 (c .if-last-ne23 .left) in
+pub returns-else-last-ne-MECH-END : need.returns-else-last-ne-MECH-END
+returns-else-last-ne-MECH-END c =
+    let d = need.at·returns-else-last-ne-MECH-END c .After-index-last in
+    let e = eq-eqb (c .index-last .result .now .code) 23 (c .if-last-ne-MECH-END .left) in
     subst (λ (b : Bool). Decides (not b) (Open-end (meant (c .args .self .now .program)))) (sym e)
     (shut-by-end (meant (c .args .self .now .program)) (all d) (seven d) (c .start-of-end .result - 1) (from d) (last d) (ap is-end (sym (there d)) ∙ e))

@@ -10,7 +10,7 @@ use Rattle.theory.proofs.Text.{end-within, first-end, module-is}
 use Rattle.text.specs.Marks.{Marked}
 use Rattle.text.proofs.MarkSteps.{marked-more, opened-more, flagged-more, unit-in-main, unit-elsewhere, flag-is}
 use Rattle.text.proofs.marks.Marks.mark_module.Needs as need
-use Rattle.text.proofs.marks.Marks.mark_module.Needs.{then-module-eq3, else-module-eq3}
+use Rattle.text.proofs.marks.Marks.mark_module.Needs.{then-module-eq-MAIN, else-module-eq-MAIN}
 
 pub index-line-requires : need.index-line-requires
 index-line-requires c κs =
@@ -38,8 +38,8 @@ loop-i-again c =
     let inv = c .loop-i .inv in
     let opened : c .loop-i .opened ≡ open-after None (stretch (p .lines) (module-first p m) i) = inv .1 ∙ ap (λ (f : ℕ). open-after None (stretch (p .lines) f i)) (c .pre .first) in
     let flagged = inv .2 ∙ ap (λ (f : ℕ). flag-after _ (stretch (p .lines) f i)) (c .pre .first) in
-    let unit : c .if-module-eq3 .unit ≡ unit-of p i = elim (c .if-module-eq3 .came) [ then-module-eq3 w ↦ w .unit-is ∙ w .main-or-unit .ensures ∙ unit-in-main p m i here (c .loop-i .opened) (w .if-module-eq3 .taken) opened | else-module-eq3 w ↦ w .unit-is ∙ unit-elsewhere p m i here (w .if-module-eq3 .left) ] in (
-      marked-more p (c .loop-i .self) (record { units = c .push .last .self; flags = c .push-in-loop-i .last .self }) i (c .if-module-eq3 .unit) (c .loop-i .flag) (inv .0)
+    let unit : c .if-module-eq-MAIN .unit ≡ unit-of p i = elim (c .if-module-eq-MAIN .came) [ then-module-eq-MAIN w ↦ w .unit-is ∙ w .main-or-unit .ensures ∙ unit-in-main p m i here (c .loop-i .opened) (w .if-module-eq-MAIN .taken) opened | else-module-eq-MAIN w ↦ w .unit-is ∙ unit-elsewhere p m i here (w .if-module-eq-MAIN .left) ] in (
+      marked-more p (c .loop-i .self) (record { units = c .push .last .self; flags = c .push-in-loop-i .last .self }) i (c .if-module-eq-MAIN .unit) (c .loop-i .flag) (inv .0)
           (c .in-Continue-push .ensures tt .items) (c .in-Continue-push-2 .ensures tt .items) (c .in-Continue-push .ensures tt .len) (c .in-Continue-push-2 .ensures tt .len) unit (flag-is p m i here (c .loop-i .flag) flagged),
       c .open-after-opened .ensures ∙ opened-more p (c .args .first) i x from inside there (c .loop-i .opened) (inv .1),
       c .flag-after-flag .ensures ∙ flagged-more p (c .args .first) i x from inside there (c .loop-i .flag) (inv .2),
