@@ -1,1 +1,9 @@
 pub mod Tables
+pub mod Finds
+pub mod Operands
+pub mod Faults
+pub mod Marks
+pub mod Mechanisms
+pub mod Targets
+pub mod Verdicts
+pub mod Views

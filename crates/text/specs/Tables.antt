@@ -1,12 +1,15 @@
 -- What a formed program keeps, and what its tables say. Assumes nothing.
 use mathlib.Core.Path.{_≡_}
-use mathlib.Core.Bool.{Bool, false}
+use mathlib.Core.Bool.{Bool, true, false}
 use mathlib.Core.List.{List}
 use Prim.Native.Nat.{ℕ, _<_, _≤_}
+use lib.Dec.{eqb}
 use lib.ListN.{length, getD}
 use Rattle.rules.specs.Refusal.{rule-number}
 use Rattle.rules.specs.declared.refusal.Rule.the-variants.{BadInit}
-use Rattle.rules.specs.Program.{Program, module-first, begin-line, end-line, flag-at}
+use Rattle.rules.specs.declared.unit.UnitId.{UnitId}
+use Rattle.rules.specs.declared.unit.UnitId.the-variants.{Module, Mechanism}
+use Rattle.rules.specs.Program.{Program, module-first, begin-line, end-line, flag-at, unit-of}
 use Rattle.rules.specs.Verdict.{Breaks}
 
 -- no rule of the text up to that of MECH_INIT is broken
@@ -28,3 +31,14 @@ Ends-are p ends = (k : ℕ) → k < length (p .activation) → getD ends k 0 ≡
 -- the text flag at each line
 abbrev pub Flags-are : Program → List Bool → Type 0
 Flags-are p flags = (l : ℕ) → l < length (p .lines) → getD flags l false ≡ flag-at p l
+
+-- whether two units are the same
+abbrev pub same-unit : UnitId → UnitId → Bool
+same-unit (Module m) (Module n) = eqb m n
+same-unit (Module m) (Mechanism k) = false
+same-unit (Mechanism k) (Module m) = false
+same-unit (Mechanism j) (Mechanism k) = eqb j k
+
+-- the unit of each line
+abbrev pub Units-are : Program → List UnitId → Type 0
+Units-are p units = (l : ℕ) → l < length (p .lines) → same-unit (getD units l (Module 0)) (unit-of p l) ≡ true

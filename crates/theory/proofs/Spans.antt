@@ -18,7 +18,7 @@ use Rattle.rules.specs.Form.{Shaped}
 use Rattle.theory.proofs.Text.{open-next, open-more, open-first, inside, end-within}
 use Rattle.theory.proofs.Orderly.{Orderly, clash}
 
-find-least : (f : Line → Bool) (xs : List Line) (j : ℕ) (d : Line) → j < length xs → f (getD xs j d) ≡ true → find f xs ≤ j
+pub find-least : (f : Line → Bool) (xs : List Line) (j : ℕ) (d : Line) → j < length xs → f (getD xs j d) ≡ true → find f xs ≤ j
 find-least f [] j d h e = absurd (omega arith)
 find-least f (x ∷ xs) zero d h e = rw (cond-true (f x) 0 (1 + find f xs) e) (omega arith)
 find-least f (x ∷ xs) (suc j) d h e = go (f x) (find-least f xs j d (omega arith) e)
@@ -27,7 +27,7 @@ find-least f (x ∷ xs) (suc j) d h e = go (f x) (find-least f xs j d (omega ari
     go true ih = omega arith
     go false ih = omega arith
 
-find-there : (f : Line → Bool) (xs : List Line) (d : Line) → find f xs < length xs → f (getD xs (find f xs) d) ≡ true
+pub find-there : (f : Line → Bool) (xs : List Line) (d : Line) → find f xs < length xs → f (getD xs (find f xs) d) ≡ true
 find-there f [] d h = absurd (omega arith)
 find-there f (x ∷ xs) d h = go (f x) refl h (find-there f xs d)
   where

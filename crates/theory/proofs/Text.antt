@@ -77,11 +77,11 @@ module _ (p : Program) where
 abbrev pub open-next : Line → Option ℕ → Option ℕ
 open-next x o = cond (is-begin x) (Some (x .operand)) (cond (is-end x) None o)
 
-open-push : (o : Option ℕ) (xs : List Line) (x : Line) → open-after o (xs ++ x ∷ []) ≡ open-next x (open-after o xs)
+pub open-push : (o : Option ℕ) (xs : List Line) (x : Line) → open-after o (xs ++ x ∷ []) ≡ open-next x (open-after o xs)
 open-push o [] x = refl
 open-push o (y ∷ ys) x = open-push (open-next y o) ys x
 
-stretch-more : {A : Type 0} (xs : List A) (f l : ℕ) (d : A) → f ≤ l → l < length xs → stretch xs f (l + 1) ≡ stretch xs f l ++ getD xs l d ∷ []
+pub stretch-more : {A : Type 0} (xs : List A) (f l : ℕ) (d : A) → f ≤ l → l < length xs → stretch xs f (l + 1) ≡ stretch xs f l ++ getD xs l d ∷ []
 stretch-more xs f l d h g =
     let q : l + 1 - f ≡ (l - f) + 1 = omega arith in
     let r : f + (l - f) ≡ l = omega arith in
