@@ -25,6 +25,9 @@ Plus S k T j v = S j v ⊎ ((j ≡ k) × T v)
 abbrev pub put : {V : Type 0} → (V → V → V) → List (Option V) → ℕ → V → List (Option V)
 put join t k x = set t k (merged join (getD t k None) x)
 
+pub put-same : {V : Type 0} (join : V → V → V) {s t : List (Option V)} {k n : ℕ} {x y : V} → s ≡ t → k ≡ n → x ≡ y → put join s k x ≡ put join t n y
+put-same join e f h = cc
+
 built-in : {V : Type 0} {join : V → V → V} {S T : V → Type 0} {v : V} → ((x : V) → S x → T x) → Built join S v → Built join T v
 built-in f (one s) = one (f _ s)
 built-in f (both p q) = both (built-in f p) (built-in f q)

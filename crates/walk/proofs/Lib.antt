@@ -1,4 +1,5 @@
 pub mod Sound
+pub mod Codes
 pub mod Covering
 pub mod Walking
 pub mod Totals

@@ -1,6 +1,6 @@
 -- What each line hands on to the lines after it. Assumes nothing.
 use mathlib.Core.Path.{_≡_, refl, sym, ap, subst, _∙_}
-use mathlib.Core.Bool.{Bool, true, false, _||_}
+use mathlib.Core.Bool.{true, false, _||_}
 use mathlib.Core.Logic.{_⊎_, inl, inr, ⊎-elim}
 use mathlib.Core.List.{List, [], _∷_}
 use Prim.Native.Nat.{ℕ, _+_, _-_, _<_, _≤_}
@@ -8,7 +8,7 @@ use native.Mathlib.Omega.{arith}
 use lib.Dec.{eqb}
 use lib.ListN.{length, getD, replicate, length-replicate, getD-replicate}
 use Rattle.std.proofs.shelf.Lists.{getD-past}
-use Rattle.std.proofs.shelf.Tests.{cases-lt, cases-eq, both-ways, eqb-true, cond-false, or-left, or-cases}
+use Rattle.std.proofs.shelf.Tests.{cases-lt, both-ways, cond-false, or-left}
 use Rattle.std.specs.declared.option.Option.{Option}
 use Rattle.std.specs.declared.option.Option.the-variants.{Some, None}
 use Rattle.rules.specs.declared.line.Line.{Line}
@@ -19,6 +19,7 @@ use Rattle.rules.specs.Route.{Way, Entry, Arrives, at-entry, passed}
 use Rattle.walk.specs.Joins.{Laws, Built, one, both, JoinOf}
 use Rattle.walk.specs.Walked.{Own-or-end, along, Brought, Walked}
 use Rattle.walk.specs.Stages.{Covers, Holds, Recent, Stage, Staged}
+use Rattle.walk.proofs.Codes.{exits-begins, jumps-ex, exit-jump}
 use Rattle.walk.proofs.Sound.{Sound, place-low, place-high}
 use Rattle.walk.proofs.Covering.{Image, Plus, put, joinof-one, joinof-image, joinof-same, covers-same, holds-more, holds-same}
 
@@ -32,29 +33,6 @@ none-some p q = let z : _≡_ {A = ℕ} 0 1 = cc in omega arith
 
 pub some-same : {V : Type 0} {o : Option V} {v w : V} → o ≡ Some v → o ≡ Some w → v ≡ w
 some-same p q = cc
-
--- the kinds of lines are apart
-pub exits-begins : (x : Line) → is-exit x ≡ true → is-begin x ≡ false
-exits-begins x h = go (x .code) h
-  where
-    go : (c : ℕ) → (eqb c 11 || (eqb c 12 || eqb c 13)) ≡ true → eqb c 22 ≡ false
-    go c h = ⊎-elim (λ e. ap (λ n. eqb n 22) (eqb-true c 11 e)) (λ e. ⊎-elim (λ e. ap (λ n. eqb n 22) (eqb-true c 12 e)) (λ e. ap (λ n. eqb n 22) (eqb-true c 13 e)) (or-cases (eqb c 12) (eqb c 13) e)) (or-cases (eqb c 11) (eqb c 12 || eqb c 13) h)
-
-pub jumps-ex : (x : Line) → is-jump x ≡ true → is-ex x ≡ false
-jumps-ex x h = go (x .code) h
-  where
-    go : (c : ℕ) → (eqb c 9 || eqb c 10) ≡ true → eqb c 11 ≡ false
-    go c h = ⊎-elim (λ e. ap (λ n. eqb n 11) (eqb-true c 9 e)) (λ e. ap (λ n. eqb n 11) (eqb-true c 10 e)) (or-cases (eqb c 9) (eqb c 10) h)
-
-pub jumps-exits : (x : Line) → is-jump x ≡ true → is-exit x ≡ false
-jumps-exits x h = go (x .code) h
-  where
-    go : (c : ℕ) → (eqb c 9 || eqb c 10) ≡ true → (eqb c 11 || (eqb c 12 || eqb c 13)) ≡ false
-    go c h = ⊎-elim (λ e. ap (λ n. eqb n 11 || (eqb n 12 || eqb n 13)) (eqb-true c 9 e)) (λ e. ap (λ n. eqb n 11 || (eqb n 12 || eqb n 13)) (eqb-true c 10 e)) (or-cases (eqb c 9) (eqb c 10) h)
-
--- no line is both an exit and a jump
-exit-jump : (x : Line) → is-exit x ≡ true → is-jump x ≡ true → ⊥
-exit-jump x e j = both-ways (is-exit x) (jumps-exits x j) e
 
 -- the line after one of EX type is the next
 pub after-exit : (p : Program) (l : ℕ) → is-exit (line-at p l) ≡ true → after p l ≡ l + 1

@@ -1,13 +1,9 @@
-// The units that a formed program has, and their lines.
+// The units that a formed program has.
 ghost use mathlib.Core.Path.{_≡_};
-ghost use mathlib.Core.Bool.{true};
-ghost use Prim.Native.Nat.{_<_};
 ghost use Rattle.std.specs.Options.{Cases as BySome};
-ghost use Rattle.rules.specs.Program.{Own, Real, line-at, after};
+ghost use Rattle.rules.specs.Program.{Real};
 ghost use Rattle.image.specs.Held.{meant};
-ghost use Rattle.walk.specs.UnitTexts.{program-of};
 use crate::unit_text::UnitText;
-use rules::line::Line;
 use rules::unit::UnitId;
 use text::formed::Formed;
 
@@ -33,21 +29,4 @@ pub fn unit_text(formed: &Formed, id: UnitId) -> Option<UnitText<'_>>
             Some(UnitText { formed, id, first, end })
         }
     }
-}
-
-/// The line of a number of the unit.
-pub fn line_of(unit: &UnitText<'_>, l: usize) -> Line
-    requires { ⌜ l < now unit .end ⌝ }
-    ensures { λ r. ⌜ r ≡ line-at (program-of (now (unit .entry))) l ⌝ }
-{
-    unit.formed.program.lines[l]
-}
-
-// The line that follows an own line of the unit: after MECH_BEGIN comes the line after its MECH_END.
-fn following(unit: &UnitText<'_>, l: usize, line: Line) -> usize
-    requires own { ⌜ Own (program-of (now unit)) (now unit .id) l ⌝ }
-    requires read { ⌜ line ≡ line-at (program-of (now unit)) l ⌝ }
-    ensures { λ r. ⌜ r ≡ after (program-of (now (unit .entry))) l ⌝ }
-{
-    if line.code == 22 { unit.formed.ends[line.operand as usize] + 1 } else { l + 1 }
 }

@@ -13,7 +13,7 @@ use Rattle.rules.specs.Program.{Program, Own, line-at, end-line, after}
 use Rattle.walk.specs.declared.unit_text.UnitText.{UnitText}
 use Rattle.walk.specs.UnitTexts.{program-of}
 use Rattle.walk.proofs.Givens.{unit-sound, end-read, span-few}
-use Rattle.walk.proofs.units.following.Needs as need
+use Rattle.walk.proofs.lines.following.Needs as need
 
 begins : (u : UnitText) (l : ℕ) (x : Line) → x ≡ line-at (program-of u) l → x .code ≡ 22 → is-begin (line-at (program-of u) l) ≡ true
 begins u l x r e = ap is-begin (sym r) ∙ eq-eqb (x .code) 22 e
