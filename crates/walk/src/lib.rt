@@ -4,3 +4,4 @@ pub mod measure;
 pub mod table;
 pub mod unit_text;
 pub mod units;
+pub mod whole;

@@ -1,6 +1,7 @@
 // The lines of a unit.
 ghost use mathlib.Core.Path.{_≡_};
 ghost use Prim.Native.Nat.{_<_};
+ghost use Rattle.rules.specs.Op.{is-exit};
 ghost use Rattle.rules.specs.Program.{Own, line-at, after};
 ghost use Rattle.walk.specs.UnitTexts.{program-of};
 use crate::unit_text::UnitText;
@@ -21,4 +22,11 @@ pub fn following(unit: &UnitText<'_>, l: usize, line: Line) -> usize
     ensures { λ r. ⌜ r ≡ after (program-of (now (unit .entry))) l ⌝ }
 {
     if line.code == 22 { unit.formed.ends[line.operand as usize] + 1 } else { l + 1 }
+}
+
+// Whether a line is EX, EX0 or EX1.
+pub fn is_exit(line: Line) -> bool
+    ensures { λ r. ⌜ r ≡ is-exit line ⌝ }
+{
+    line.code == 11 || (line.code == 12 || line.code == 13)
 }
