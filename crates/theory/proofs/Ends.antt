@@ -29,7 +29,7 @@ use Rattle.theory.proofs.Units.{own-module, own-span, after-begin, after-plain
 begins-jumps : (x : Line) → is-begin x ≡ true → is-jump x ≡ false
 begins-jumps x h = ap (λ (c : ℕ). eqb c 9 || eqb c 10) (eqb-true (x .code) 22 h)
 
-begins-exits : (x : Line) → is-begin x ≡ true → is-exit x ≡ false
+pub begins-exits : (x : Line) → is-begin x ≡ true → is-exit x ≡ false
 begins-exits x h = ap (λ (c : ℕ). eqb c 11 || (eqb c 12 || eqb c 13)) (eqb-true (x .code) 22 h)
 
 -- only MECH_BEGIN has its code
@@ -61,7 +61,7 @@ begin-op (mech-init k) h = absurd (false≢true h)
 
 module _ (p : Program) (sec : Shaped p) (ord : Orderly p) where
   -- a mechanism's MECH_BEGIN, found again
-  begin-is : (l k : ℕ) → l < length (p .lines) → is-begin (line-at p l) ≡ true → line-at p l .operand ≡ k → Span p k × (begin-line p k ≡ l)
+  pub begin-is : (l k : ℕ) → l < length (p .lines) → is-begin (line-at p l) ≡ true → line-at p l .operand ≡ k → Span p k × (begin-line p k ≡ l)
   begin-is l k h b e =
       let s : Span p k = subst (λ (x : ℕ). Span p x) e (span-at p sec ord l h b) in
       let w = end-within p main-module (sec .all-lines) in
@@ -69,15 +69,15 @@ module _ (p : Program) (sec : Shaped p) (ord : Orderly p) where
       let y = s .to in
       (s, begun-once p sec ord (begin-line p k) l (omega arith) h (s .begin-there) b (s .begin-names ∙ sym e))
 
-  own-low : (u : UnitId) (l : ℕ) → Real p u → Own p u l → first p u ≤ l
+  pub own-low : (u : UnitId) (l : ℕ) → Real p u → Own p u l → first p u ≤ l
   own-low (Module n) l h o = inside p l n (sec .all-lines) (o .within) (own-module p n l o .0) .0
   own-low (Mechanism k) l h o = let q = own-span p sec ord k l (span p sec ord k h) o .0 in omega arith
 
-  own-high : (u : UnitId) (l : ℕ) → Real p u → Own p u l → l < end p u
+  pub own-high : (u : UnitId) (l : ℕ) → Real p u → Own p u l → l < end p u
   own-high (Module n) l h o = inside p l n (sec .all-lines) (o .within) (own-module p n l o .0) .1
   own-high (Mechanism k) l h o = let q = own-span p sec ord k l (span p sec ord k h) o .1 in omega arith
 
-  after-rises : (l : ℕ) → l < length (p .lines) → (b : Bool) → is-begin (line-at p l) ≡ b → l < after p l
+  pub after-rises : (l : ℕ) → l < length (p .lines) → (b : Bool) → is-begin (line-at p l) ≡ b → l < after p l
   after-rises l h true e =
       let q = begin-is l (line-at p l .operand) h e refl in
       let x = q .0 .order in
@@ -85,7 +85,7 @@ module _ (p : Program) (sec : Shaped p) (ord : Orderly p) where
       rw (after-begin p sec ord l e) (omega arith)
   after-rises l h false e = rw (after-plain p sec ord l e) (omega arith)
 
-  way-rises : (l m : ℕ) → l < length (p .lines) → Way p l m → l < m
+  pub way-rises : (l m : ℕ) → l < length (p .lines) → Way p l m → l < m
   way-rises l m h (inl (x, e)) = rw e (after-rises l h (is-begin (line-at p l)) refl)
   way-rises l m h (inr (j, e)) = rw e (ord .lands l h j .0)
 
@@ -96,14 +96,14 @@ module _ (p : Program) (sec : Shaped p) (ord : Orderly p) where
       let b = after-rises x (o .within) (is-begin (line-at p x)) refl in
       omega arith
 
-  path-length : (u : UnitId) {path : List ℕ} {l : ℕ} → Real p u → Arrives p u path l → first p u + length path ≤ l
+  pub path-length : (u : UnitId) {path : List ℕ} {l : ℕ} → Real p u → Arrives p u path l → first p u + length path ≤ l
   path-length u h (at-entry {m = m} e) = let q = entry-low u m h e in omega arith
   path-length u h (passed {l = l} {m = m} a o w) =
       let q = path-length u h a in
       let r = way-rises l m (o .within) w in
       omega arith
 
-  inner-length : (k : ℕ) (inner : List ℕ) → Span p k → Real p (Mechanism k) → Route p (Mechanism k) inner → begin-line p k + length inner ≤ end-line p k
+  pub inner-length : (k : ℕ) (inner : List ℕ) → Span p k → Real p (Mechanism k) → Route p (Mechanism k) inner → begin-line p k + length inner ≤ end-line p k
   inner-length k inner s h (to-end a) = let q = path-length (Mechanism k) h a in omega arith
   inner-length k inner s h (stopped {l = l} a o e) =
       let q = path-length (Mechanism k) h a in
@@ -111,7 +111,7 @@ module _ (p : Program) (sec : Shaped p) (ord : Orderly p) where
       omega arith
 
   -- a mechanism that is begun is one of the program's
-  begun-real : (l : ℕ) → l < length (p .lines) → is-begin (line-at p l) ≡ true → line-at p l .operand < length (p .activation)
+  pub begun-real : (l : ℕ) → l < length (p .lines) → is-begin (line-at p l) ≡ true → line-at p l .operand < length (p .activation)
   begun-real l h b =
       let q = ord .known l h in
       let s = decode-says (line-at p l) (q .0) (q .1) in
@@ -124,7 +124,7 @@ module _ (p : Program) (sec : Shaped p) (ord : Orderly p) where
   begin-way l m b (inl (x, e)) = e
   begin-way l m b (inr (j, e)) = absurd (both-ways (is-jump (line-at p l)) (begins-jumps (line-at p l) b) j)
 
-  module-steps : (t : ℕ) {path : List ℕ} {l n : ℕ} → Real p (Module t) → Arrives p (Module t) path l → Steps p path n → module-first p t + n ≤ l
+  pub module-steps : (t : ℕ) {path : List ℕ} {l n : ℕ} → Real p (Module t) → Arrives p (Module t) path l → Steps p path n → module-first p t + n ≤ l
   module-steps t h (at-entry {m = m} e) none = let q = entry-low (Module t) m h e in omega arith
   module-steps t h (passed {l = l} {m = m} a o w) (line s) =
       let q = module-steps t h a s in

@@ -1,0 +1,88 @@
+-- What a unit's text carries: its program is formed, and the program has the unit. Assumes nothing.
+use denote.Ref.{now}
+use mathlib.Core.Path.{_≡_, subst, _∙_}
+use Prim.Native.Nat.{ℕ, _<_, _≤_}
+use native.Mathlib.Omega.{arith}
+use lib.ListN.{length, getD}
+use Rattle.std.specs.Of.Vec.{vec-items, vec-len}
+use Rattle.std.proofs.shelf.Lists.{getD-read}
+use Rattle.rules.specs.declared.unit.UnitId.{UnitId}
+use Rattle.rules.specs.declared.unit.UnitId.the-variants.{Module, Mechanism}
+use Rattle.rules.specs.Program.{Program, Real, main-module, begin-line, end-line}
+use Rattle.rules.specs.Image.{Section, data-section, mechanism-section, module-section, line-section}
+use Rattle.rules.specs.Form.{Shaped, In-range, Bits-inside, records}
+use Rattle.rules.specs.Verdict.{Formed}
+use Rattle.image.specs.Held.{meant}
+use Rattle.image.specs.declared.program.Program as image
+use Rattle.text.specs.declared.formed.Formed as text
+use Rattle.theory.proofs.Text.{end-within}
+use Rattle.theory.proofs.Orderly.{orderly}
+use Rattle.theory.proofs.Spans.{span}
+use Rattle.walk.specs.Units.{Had}
+use Rattle.walk.specs.UnitTexts.{program-of}
+use Rattle.walk.specs.declared.unit_text.UnitText.{UnitText}
+use Rattle.walk.proofs.Sound.{Sound, sound}
+
+counted : (p : image.Program) (s : Section) → In-range s (records (meant p) s)
+counted p data-section = subst (In-range data-section) (p .initial .ok .0) (p .«data_count»)
+counted p mechanism-section = subst (In-range mechanism-section) (p .activation .ok .0) (p .«mechanism_count»)
+counted p module-section = subst (In-range module-section) (p .lengths .ok .0) (p .«module_count»)
+counted p line-section = subst (In-range line-section) (p .lines .ok .0) (p .«line_count»)
+
+-- a program as read has its shape
+pub shaped-as-read : (p : image.Program) → Shaped (meant p)
+shaped-as-read p = record {
+  counts = counted p;
+  bytes-small = p .«bytes_small»;
+  activation-inside = subst (Bits-inside (vec-items (p .activation))) (p .initial .ok .0) (p .«bits_inside»);
+  all-lines = p .«all_lines» ∙ p .lines .ok .0;
+}
+
+-- a formed program is formed by the rules
+pub formed-by-rules : (f : text.Formed) → Formed (meant (f .program))
+formed-by-rules f = record { shaped = shaped-as-read (f .program); unbroken = f .unbroken }
+
+-- a formed program's lines are few
+pub lines-few : (f : text.Formed) → length (meant (f .program) .lines) ≤ 2048
+lines-few f = formed-by-rules f .shaped .counts line-section .1
+
+module _ (f : text.Formed) (k : ℕ) (within : k < vec-len (f .program .activation)) where
+  real : k < length (vec-items (f .program .activation))
+  real = let o = f .program .activation .ok .0 in omega arith
+
+  -- the MECH_BEGIN and the MECH_END of a mechanism, as the tables have them
+  pub begin-read : (b : ℕ) → b ≡ getD (vec-items (f .begins)) k b → b ≡ begin-line (meant (f .program)) k
+  begin-read b r =
+      let room : k < length (vec-items (f .begins)) = omega (arith, f .begins .ok .0, f .«begins_count») in
+      getD-read _ _ _ room r 0 ∙ f .«begins_are» k real
+
+  pub end-read : (e : ℕ) → e ≡ getD (vec-items (f .ends)) k e → e ≡ end-line (meant (f .program)) k
+  end-read e r =
+      let room : k < length (vec-items (f .ends)) = omega (arith, f .ends .ok .0, f .«ends_count») in
+      getD-read _ _ _ room r 0 ∙ f .«ends_are» k real
+
+  -- they are lines of the program
+  pub span-few : (begin-line (meant (f .program)) k < 2048) × (end-line (meant (f .program)) k < 2048)
+  span-few =
+      let g = formed-by-rules f in
+      let s = span (meant (f .program)) (g .shaped) (orderly (meant (f .program)) g) k real in
+      let w = end-within (meant (f .program)) main-module (g .shaped .all-lines) in
+      let n = lines-few f in
+      let a = s .order in
+      let b = s .to in
+      (omega arith, omega arith)
+
+pub had-real : (p : Program) (u : UnitId) → Had p u → Real p u
+had-real p (Module m) h = h
+had-real p (Mechanism k) h = h
+
+pub real-had : (p : Program) (u : UnitId) → Real p u → Had p u
+real-had p (Module m) h = h
+real-had p (Mechanism k) h = h
+
+-- the unit of a unit's text is one that its program has
+pub unit-real : (u : UnitText) → Real (program-of u) (u .id)
+unit-real u = had-real (program-of u) (u .id) (u .had)
+
+pub unit-sound : (u : UnitText) → Sound (program-of u) (u .id)
+unit-sound u = sound (program-of u) (formed-by-rules (now (u .formed))) (u .id) (unit-real u)

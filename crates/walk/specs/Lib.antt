@@ -1,0 +1,5 @@
+pub mod Joins
+pub mod Walked
+pub mod Stages
+pub mod Units
+pub mod UnitTexts
