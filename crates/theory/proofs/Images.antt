@@ -358,7 +358,7 @@ module _ (image : List ℕ) (small : Bytes image) (sound : Image-sound image) wh
   count-again : (s : Section) → two-bytes (records (program-of image) s) ++ drop (section-place image s) image ≡ drop (count-place image s) image
   count-again s =
       let h = section-held s in
-      ap (λ (n : ℕ). two-bytes n ++ drop (section-place image s) image) (read image small sound s) ∙ pair-again image small (count-place image s) (omega arith)
+      ap (λ (n : ℕ). two-bytes n ++ drop (section-place image s) image) (read image sound s) ∙ pair-again image small (count-place image s) (omega arith)
 
   lines-part : lines-bytes (program-of image .lines) ≡ drop (section-place image line-section) image
   lines-part =
@@ -383,7 +383,7 @@ module _ (image : List ℕ) (small : Bytes image) (sound : Image-sound image) wh
 
 pub sound-images-are-encodings : Sound-images-are-encodings
 sound-images-are-encodings image small =
-    (λ sound. (program-of image, shape image small sound, sym (again image small sound)), λ p sh e. subst Image-sound (sym e) (images-are-sound p sh))
+    (λ sound. (program-of image, shape image sound small, sym (again image small sound)), λ p sh e. subst Image-sound (sym e) (images-are-sound p sh))
 
 pub loads-are-accepted : Loads-are-accepted
 loads-are-accepted image p small h = record { shaped = subst Shaped (sym (h .program)) (shape image (h .sound) small); unbroken = h .unbroken }

@@ -65,7 +65,7 @@ fresh-fits p = record { bytes-fit = refl; points-fit = first-lines-length p 0 (p
     pointed-first (Module n) h s = block-entry p n
     pointed-first (Mechanism k) h s = inl (first-lines-at p 0 k (p .activation) h ∙ (let q : 0 + k ≡ k = omega arith in ap (λ (x : ℕ). first p (Mechanism x)) q))
 
-back-fits : (p : Program) (m : Memory) → Fitting p m → Fitting p (block-points-back p m)
+pub back-fits : (p : Program) (m : Memory) → Fitting p m → Fitting p (block-points-back p m)
 back-fits p m f = record { bytes-fit = f .bytes-fit; points-fit = f .points-fit; pointed = pointed-back }
   where
     pointed-back : Pointed p (block-points-back p m)

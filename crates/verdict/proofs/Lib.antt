@@ -1,2 +1,3 @@
 pub mod NullTables
 pub mod Scanning
+pub mod Kept

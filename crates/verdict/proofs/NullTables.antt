@@ -6,9 +6,10 @@ use Prim.Native.Nat.{ℕ, zero, suc, _+_, _<_}
 use native.Mathlib.Omega.{arith}
 use lib.ListN.{length, getD, take, replicate}
 use Rattle.rules.specs.declared.line.Line.{Line}
+use Rattle.rules.specs.declared.unit.UnitId.{UnitId}
 use Rattle.rules.specs.Program.{Program, null-program, total, module-first}
 use Rattle.rules.specs.Verdict.{Breaks}
-use Rattle.text.specs.Tables.{Unbroken, Starts-are, Begins-are, Ends-are, Flags-are}
+use Rattle.text.specs.Tables.{Unbroken, Starts-are, Begins-are, Ends-are, Flags-are, Units-are}
 use Rattle.theory.proofs.Null.{null-accepted}
 
 -- a program with the null program's parts is the null program
@@ -46,3 +47,6 @@ module _ (p : Program) (e : p ≡ null-program) where
 
   pub null-flags : (flags : List Bool) → Flags-are p flags
   null-flags flags l h = absurd (no-line l h)
+
+  pub null-units : (units : List UnitId) → Units-are p units
+  null-units units l h = absurd (no-line l h)

@@ -28,6 +28,7 @@ pub fn null_program(heap: Global) -> Result<Accepted, AllocError>
         begins: Vec::new(heap),
         ends: Vec::new(heap),
         flags: Vec::new(heap),
+        units: Vec::new(heap),
     };
     Ok(Accepted { formed })
 }
