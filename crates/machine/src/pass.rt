@@ -1,7 +1,8 @@
 // A pass of a module, with the mechanisms that MAIN enters.
 ghost use mathlib.Core.Path.{_≡_};
 ghost use mathlib.Core.Bool.{true, false};
-ghost use Prim.Native.Nat.{_<_};
+ghost use Prim.Native.Nat.{_<_, _≤_};
+ghost use Rattle.std.specs.Of.Vec.{vec-len};
 ghost use Rattle.rules.specs.declared.unit.UnitId.the-variants.{Module};
 ghost use Rattle.rules.specs.Program.{sequential};
 ghost use Rattle.rules.specs.Run.{Step, Passes};
@@ -42,6 +43,7 @@ pub fn pass(program: &Accepted, module: usize, memory: &mut Memory) -> Passed
     requires fitting { ⌜ Fitting (program-of (now program)) (memory-of (now memory)) ⌝ }
     ensures passes { λ r. ⌜ Passes (program-of (now (program .entry))) (Module «module») (memory-of (now (memory .entry))) (r .steps) (r .whole) (memory-of (now (memory .exit))) ⌝ }
     ensures fitting { λ _. ⌜ Fitting (program-of (now (program .entry))) (memory-of (now (memory .exit))) ⌝ }
+    ensures bounded { λ r. ⌜ r .steps ≤ vec-len (now (program .entry) .formed .program .lines) ⌝ }
     ensures whole { λ r. ⌜ (sequential (Module «module») ≡ false → r .whole ≡ true) ⌝ }
 {
     let mut registers = cleared_registers();

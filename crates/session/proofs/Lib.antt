@@ -1,0 +1,4 @@
+pub mod Blocks
+pub mod Fits
+pub mod Passed
+pub mod Conducting

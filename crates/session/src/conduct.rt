@@ -1,0 +1,16 @@
+// Whole sessions: a start, any list of calls, and perhaps a halt.
+use machine::memory::Memory;
+use rules::session::Answer;
+use rules::session::Call;
+use rules::session::Phase;
+
+pub mod conducting;
+
+/// What a session answered, call by call, and what it left.
+#[derive(Drop)]
+pub struct Conducted<C> {
+    pub transcript: Vec<(Call, Answer)>,
+    pub cabinet: C,
+    pub memory: Memory,
+    pub phase: Phase,
+}
