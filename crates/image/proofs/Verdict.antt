@@ -1,15 +1,15 @@
 -- What the parts of the reader find, as the verdict on the image. Assumes nothing.
-use mathlib.Core.Path.{_≡_, refl, sym, ap, subst, _∙_}
+use mathlib.Core.Path.{_≡_, sym, ap, subst, _∙_}
 use mathlib.Core.List.{List}
 use Prim.Native.Nat.{ℕ, _+_, _*_, _/_, _<_, _≤_}
 use native.Mathlib.Omega.{arith}
 use lib.ListN.{length, getD, take, drop}
-use Rattle.rules.specs.Program.{total, module-first}
+use Rattle.rules.specs.Program.{total}
 use Rattle.rules.specs.Image as rules
-use Rattle.rules.specs.Image.{data-section, mechanism-section, module-section, line-section, record-size, pair-at, pairs-from, count-place, count, section-place, program-of}
+use Rattle.rules.specs.Image.{data-section, mechanism-section, module-section, record-size, pair-at, pairs-from, count-place, count, section-place, program-of}
 use Rattle.image.specs.declared.fault.ImageFault.{ImageFault}
 use Rattle.image.specs.declared.sections.Kind.{Kind}
-use Rattle.image.specs.declared.sections.Kind.the-variants.{Data, Mechanisms, Modules, Lines}
+use Rattle.image.specs.declared.sections.Kind.the-variants.{Mechanisms, Modules}
 use Rattle.image.specs.declared.sections.Part.{Part}
 use Rattle.image.specs.declared.sections.Section.{Section}
 use Rattle.image.specs.Refusals.{Refused-by}

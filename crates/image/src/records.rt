@@ -1,6 +1,6 @@
 // The records of the mechanism and module sections.
 ghost use mathlib.Core.Path.{_≡_};
-ghost use Prim.Native.Nat.{ℕ, _+_, _*_, _/_, _^_, _≤_, _<_};
+ghost use Prim.Native.Nat.{ℕ, _+_, _*_, _/_, _^_, _<_};
 ghost use lib.ListN.{length, getD, take};
 ghost use Rattle.std.specs.Results.{Cases};
 ghost use Rattle.rules.specs.Program.{total};

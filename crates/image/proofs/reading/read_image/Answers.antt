@@ -1,6 +1,6 @@
 use mathlib.Core.Path.{_≡_, refl, sym, ap, subst, _∙_}
 use native.Mathlib.Omega.{arith}
-use Prim.Native.Nat.{ℕ, _+_, _*_, _/_, _<_, _≤_}
+use Prim.Native.Nat.{ℕ, _*_, _/_}
 use lib.ListN.{length}
 use Rattle.std.proofs.shelf.Results.{err-from-errBy}
 use Rattle.rules.specs.Program.{total}
@@ -11,7 +11,7 @@ use Rattle.image.specs.Reading.{Found}
 use Rattle.image.proofs.Places.{Clear, Bits-held, clear-none, refused-left-over, refused-total, sound}
 use Rattle.image.proofs.Verdict.{missing-refused, found-at, passed, is-section, part-long, part-end, bits-held, outside-refused, lengths-are, starts-are}
 use Rattle.image.proofs.reading.read_image.Needs as need
-use Rattle.image.proofs.reading.read_image.Needs.{In-Continue-data, In-Continue-mechanisms, In-Continue-check-activations, In-Continue-modules, In-Continue-lines, After-end-mechanisms-at, After-end-modules-at, After-end-lines-at, After-end-end, After-check-activations, After-unit-starts-total}
+use Rattle.image.proofs.reading.read_image.Needs.{In-Continue-mechanisms, In-Continue-check-activations, In-Continue-modules, In-Continue-lines, After-end-mechanisms-at, After-end-modules-at, After-end-lines-at, After-end-end, After-check-activations, After-unit-starts-total}
 
 pub returns-in-Break-data : need.returns-in-Break-data
 returns-in-Break-data c =

@@ -1,9 +1,9 @@
 use borrow.Author.Needs.{needs}
 use borrow.Author.Count.{below-more}
-use mathlib.Core.Path.{_≡_, refl, sym, ap, subst, _∙_}
+use mathlib.Core.Path.{_≡_, sym, ap, subst, _∙_}
 use native.Mathlib.Omega.{arith}
-use Prim.Native.Nat.{ℕ, _+_, _*_, _/_, _<_, _≤_}
-use lib.ListN.{length, getD, drop, length-drop}
+use Prim.Native.Nat.{ℕ, _+_, _*_, _<_, _≤_}
+use lib.ListN.{length, length-drop}
 use Rattle.std.specs.Parts.{chunks-exact-rest, enumerate-source, enumerate-count}
 use Rattle.rules.specs.Image.{pair-at}
 use Rattle.image.specs.declared.fault.ImageFault.the-variants.{ActivationOutside}

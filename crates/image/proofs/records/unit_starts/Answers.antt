@@ -1,15 +1,14 @@
 use borrow.Author.Needs.{needs}
 use borrow.Author.Count.{below-more}
-use mathlib.Core.Path.{_≡_, refl, sym, ap, subst, _∙_}
-use mathlib.Core.List.{List}
+use mathlib.Core.Path.{_≡_, sym, ap, subst, _∙_}
 use mathlib.Core.Logic.{_≢_}
 use native.Mathlib.Omega.{arith}
-use Prim.Native.Nat.{ℕ, _+_, _*_, _/_, _<_, _≤_}
-use lib.ListN.{length, getD, take, drop, set, length-drop}
+use Prim.Native.Nat.{ℕ, _+_, _*_, _/_, _<_}
+use lib.ListN.{length, getD, take, set, length-drop}
 use lib.Seq.{getD-set-same, getD-set-other}
 use Rattle.std.specs.Parts.{chunks-exact-rest, enumerate-source, enumerate-count}
 use Rattle.rules.specs.Program.{total}
-use Rattle.rules.specs.Image.{pair-at, pairs-from}
+use Rattle.rules.specs.Image.{pairs-from}
 use Rattle.image.proofs.Pairs.{rest-more, record-pair, record-within, pair-total, all-total}
 use Rattle.image.proofs.records.unit_starts.Needs as need
 

@@ -1,10 +1,9 @@
-use mathlib.Core.Path.{_≡_, refl, sym, ap, subst, _∙_}
-use mathlib.Core.Logic.{_⊎_, inl, inr}
+use mathlib.Core.Path.{_≡_, sym, ap, subst}
+use mathlib.Core.Logic.{inl, inr}
 use native.Mathlib.Nat.{add-zero}
 use native.Mathlib.Omega.{arith}
-use Prim.Native.Nat.{_<_}
 use Rattle.std.proofs.shelf.Results.{err-from-errBy}
-use Rattle.rules.specs.Image.{pair-at, least-count, most-count}
+use Rattle.rules.specs.Image.{pair-at}
 use Rattle.image.specs.Parts.{section-of}
 use Rattle.image.specs.Reading.{Missing, short-count, bad-count}
 use Rattle.image.proofs.Pairs.{part-pair}

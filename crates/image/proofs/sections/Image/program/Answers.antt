@@ -1,6 +1,6 @@
 use mathlib.Core.Path.{_≡_, ap, _∙_}
 use lib.ListN.{length}
-use Rattle.std.specs.Of.Vec.{vec-items, vec-len}
+use Rattle.std.specs.Of.Vec.{vec-items}
 use Rattle.rules.specs.Image.{data-section, mechanism-section, module-section, line-section, program-of}
 use Rattle.image.proofs.Contents.{initial-is, activation-is, lengths-are, lines-are, in-range, bits-inside, all-lines}
 use Rattle.image.proofs.sections.Image.program.Needs as need
