@@ -5,7 +5,7 @@ use mathlib.Core.List.{List}
 use mathlib.Core.Logic.{_⊎_, inl, inr}
 use Prim.Native.Nat.{ℕ, min, _+_, _<_, _≤_}
 use native.Mathlib.Omega.{arith}
-use lib.Dec.{eqb}
+use lib.Dec.{eqb, lit<}
 use lib.ListN.{length}
 use Rattle.std.specs.Options.{valueOr}
 use Rattle.std.specs.Orderings.{Decides}
@@ -19,8 +19,8 @@ use Rattle.std.proofs.shelf.Lists.{getD-default}
 use Rattle.rules.specs.declared.unit.UnitId.the-variants.{Module}
 use Rattle.rules.specs.Op.{is-begin, is-end}
 use Rattle.rules.specs.Program.{Program, Own, total, line-at, main-module, module-first, module-end, module-of, open-at, begin-line}
-use Rattle.rules.specs.Form.{Left-over, Bad-mechanism}
-use Rattle.theory.proofs.Text.{open-more, open-first, module-is, end-within}
+use Rattle.rules.specs.Form.{Shaped, Left-over, Bad-mechanism}
+use Rattle.theory.proofs.Text.{named, open-more, module-is, end-within}
 use Rattle.theory.proofs.Orderly.{clash}
 use Rattle.theory.proofs.Spans.{next-begin, next-end, next-quiet, begins-not-ends}
 use Rattle.theory.proofs.Units.{own-module, make-module}
@@ -36,11 +36,11 @@ use Rattle.text.proofs.Pairing.{begun-by, begun-there}
 abbrev pub Open-end : Program → Type 0
 Open-end p = open-at p (module-end p main-module) ≡ None → ⊥
 
-module _ (p : Program) (all : total (p .lengths) ≡ length (p .lines)) (seven : 7 ≤ length (p .lengths)) where
+module _ (p : Program) (sec : Shaped p) where
   -- l is MAIN's last line
   module _ (l : ℕ) (from : module-first p main-module ≤ l) (last : l + 1 ≡ module-end p main-module) where
     within : l < length (p .lines)
-    within = let e = end-within p main-module all in omega arith
+    within = let e = end-within p main-module (sec .all-lines) in omega arith
 
     step : open-at p (module-end p main-module) ≡ cond (is-begin (line-at p l)) (Some (line-at p l .operand)) (cond (is-end (line-at p l)) None (open-at p l))
     step = ap (open-at p) (sym last) ∙ open-more p l from within
@@ -54,11 +54,8 @@ module _ (p : Program) (all : total (p .lengths) ≡ length (p .lines)) (seven :
     pub open-by-unit : (owned : Bool) → Decides owned (Own p (Module main-module) l) → is-begin (line-at p l) ≡ false → is-end (line-at p l) ≡ false → Decides (not owned) (Open-end p)
     open-by-unit true d b e = (λ q. absurd (true≢false (sym q)), λ n. absurd (n (step ∙ next-quiet (line-at p l) (open-at p l) b e ∙ own-module p main-module l (d .0 refl) .1 refl)))
     open-by-unit false d b e =
-        let here : module-of (p .lengths) l ≡ main-module = module-is p l main-module (omega arith) from (omega arith) in
+        let here : module-of (p .lengths) l ≡ main-module = module-is p l main-module (named p sec main-module (lit< tt)) from (omega arith) in
         (λ _ o. true≢false (sym (d .1 (make-module p main-module l within here (λ _. sym (step ∙ next-quiet (line-at p l) (open-at p l) b e) ∙ o)))), λ _. refl)
-
-  pub shut-when-empty : module-first p main-module ≡ module-end p main-module → Decides false (Open-end p)
-  shut-when-empty e = (λ q. absurd (true≢false (sym q)), λ n. absurd (n (ap (open-at p) (sym e) ∙ open-first p)))
 
 -- MECHANISMS THAT ARE BEGUN NOWHERE
 

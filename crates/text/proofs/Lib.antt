@@ -5,3 +5,4 @@ pub mod Landing
 pub mod Pairing
 pub mod LeftOver
 pub mod Breaches
+pub mod Shape

@@ -6,8 +6,9 @@ use Rattle.std.specs.declared.option.Option.the-variants.{None}
 use Rattle.std.proofs.shelf.Lists.{getD-read}
 use Rattle.rules.specs.Program.{no-line, line-at, module-of, module-first, open-after, flag-after, stretch, unit-of}
 use Rattle.image.specs.Held.{meant}
-use Rattle.theory.proofs.Text.{end-within, first-end, module-is}
+use Rattle.theory.proofs.Text.{named, end-within, first-end, module-is}
 use Rattle.text.specs.Marks.{Marked}
+use Rattle.text.proofs.Shape.{shaped}
 use Rattle.text.proofs.MarkSteps.{marked-more, opened-more, flagged-more, unit-in-main, unit-elsewhere, flag-is}
 use Rattle.text.proofs.marks.Marks.mark_module.Needs as need
 use Rattle.text.proofs.marks.Marks.mark_module.Needs.{then-module-eq-MAIN, else-module-eq-MAIN}
@@ -16,8 +17,7 @@ pub index-line-requires : need.index-line-requires
 index-line-requires c κs =
     let p = meant (c .args .program .now) in
     let n = c .args .program .now .lines .ok .0 in
-    let all = c .args .program .now .«all_lines» in
-    let e = end-within p (c .args .module) (omega arith) in
+    let e = end-within p (c .args .module) (shaped (c .args .program .now) .all-lines) in
     omega arith
 
 pub loop-i-again : need.loop-i-again
@@ -26,14 +26,11 @@ loop-i-again c =
     let i = c .loop-i .i in
     let m = c .args .module in
     let x = c .index-line .result .now in
-    let n = c .args .program .now .lines .ok .0 in
-    let k = c .args .program .now .lengths .ok .0 in
-    let all = c .args .program .now .«all_lines» in
-    let seven = c .args .program .now .«module_count» .0 in
-    let e = end-within p m (omega arith) in
+    let s = shaped (c .args .program .now) in
+    let e = end-within p m (s .all-lines) in
     let inside : i < length (p .lines) = omega arith in
     let there : x ≡ line-at p i = getD-read (p .lines) i x inside (c .index-line .ensures) no-line in
-    let here : module-of (p .lengths) i ≡ m = module-is p i m (omega arith) (omega arith) (omega arith) in
+    let here : module-of (p .lengths) i ≡ m = module-is p i m (named p s m (c .pre .module)) (omega arith) (omega arith) in
     let from : c .args .first ≤ i = c .loop-i .kept .i in
     let inv = c .loop-i .inv in
     let opened : c .loop-i .opened ≡ open-after None (stretch (p .lines) (module-first p m) i) = inv .1 ∙ ap (λ (f : ℕ). open-after None (stretch (p .lines) f i)) (c .pre .first) in
