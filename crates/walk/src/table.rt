@@ -52,11 +52,14 @@ fn visit<M: Measure>(measure: &M, unit: &UnitText<'_>, i: usize, table: &mut Vec
     let next = following(unit, i, line) - unit.first;
     let out = measure.step(i, line, v);
     match line.code {
+        // JL0 and JL1
         9 | 10 => {
             merge(measure, table, next, out);
             merge(measure, table, line.operand as usize - unit.first, out);
         }
+        // EX
         11 => merge(measure, table, next, measure.start()),
+        // EX0 and EX1
         12 | 13 => {
             merge(measure, table, next, out);
             merge(measure, table, next, measure.start());

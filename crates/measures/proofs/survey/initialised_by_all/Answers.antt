@@ -1,14 +1,12 @@
-use mathlib.Core.Path.{_≡_, sym, ap, _∙_}
+use mathlib.Core.Path.{_∙_}
 use native.Mathlib.Omega.{arith}
-use Prim.Native.Nat.{ℕ, _-_, _<_}
-use lib.ListN.{length, getD}
-use Rattle.std.proofs.shelf.Lists.{getD-read}
+use Prim.Native.Nat.{_-_, _<_}
+use lib.ListN.{length}
 use Rattle.std.specs.Of.Vec.{vec-items}
-use Rattle.std.specs.declared.option.Option.the-variants.{None}
-use Rattle.rules.specs.Program.{first, end}
+use Rattle.rules.specs.Program.{end}
 use Rattle.rules.specs.Image.{mechanism-section}
 use Rattle.walk.specs.UnitTexts.{program-of}
-use Rattle.walk.proofs.Givens.{formed-by-rules, unit-sound}
+use Rattle.walk.proofs.Givens.{formed-by-rules, unit-sound, read-at-end}
 use Rattle.walk.proofs.Totals.{some-end, entry-joins}
 use Rattle.measures.specs.Models.{set-of, set-after}
 use Rattle.measures.proofs.Sets.{by-all}
@@ -27,8 +25,7 @@ returns-in-rest c =
     let t = vec-items (c .in-Continue-table .table) in
     let walked = c .in-Continue-table .ensures tt in
     let room : u .end - u .first < length t = omega (arith, unit-sound u .order, u .«first_is», u .«end_is», walked .long) in
-    let place : end p (u .id) - first p (u .id) ≡ u .end - u .first = omega (arith, u .«first_is», u .«end_is») in
-    absurd (some-end p (u .id) (unit-sound u) (set-of 0) set-after t walked (ap (λ (n : ℕ). getD t n None) place ∙ sym (getD-read _ _ _ room (c .index .ensures) None) ∙ c .in-rest .is))
+    absurd (some-end p (u .id) (unit-sound u) (set-of 0) set-after t walked (read-at-end u t _ room (c .index .ensures) ∙ c .in-rest .is))
 
 pub returns : need.returns
 returns c =
@@ -37,6 +34,5 @@ returns c =
     let t = vec-items (c .in-Continue-table .table) in
     let walked = c .in-Continue-table .ensures tt in
     let room : u .end - u .first < length t = omega (arith, unit-sound u .order, u .«first_is», u .«end_is», walked .long) in
-    let place : end p (u .id) - first p (u .id) ≡ u .end - u .first = omega (arith, u .«first_is», u .«end_is») in
     by-all p (u .id) (formed-by-rules (u .formed .now) .shaped .counts mechanism-section .1) (c .in-Some .set)
-    (entry-joins p (u .id) (unit-sound u) (set-of 0) set-after t walked (end p (u .id)) (c .in-Some .set) (unit-sound u .order) (ap (λ (n : ℕ). getD t n None) place ∙ sym (getD-read _ _ _ room (c .index .ensures) None) ∙ c .in-Some .is))
+    (entry-joins p (u .id) (unit-sound u) (set-of 0) set-after t walked (end p (u .id)) (c .in-Some .set) (unit-sound u .order) (read-at-end u t _ room (c .index .ensures) ∙ c .in-Some .is))

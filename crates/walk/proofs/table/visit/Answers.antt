@@ -4,7 +4,6 @@ use mathlib.Core.Logic.{_⊎_, inl, inr, ⊎-elim}
 use native.Mathlib.Omega.{arith}
 use Prim.Native.Nat.{ℕ, _+_, _-_, _<_, _≤_}
 use lib.ListN.{length, getD, length-set}
-use Rattle.std.proofs.shelf.Lists.{getD-read}
 use Rattle.std.proofs.shelf.Tests.{eq-eqb}
 use Rattle.std.specs.Of.Vec.{vec-items}
 use Rattle.std.specs.declared.option.Option.the-variants.{Some, None}
@@ -16,7 +15,7 @@ use Rattle.walk.specs.Stages.{Staged}
 use Rattle.walk.specs.UnitTexts.{program-of}
 use Rattle.walk.proofs.Codes.{jump-coded, not-jump-coded, exit-coded, not-exit-coded, not-ex-coded}
 use Rattle.walk.proofs.Sound.{Sound, place-low, place-high}
-use Rattle.walk.proofs.Givens.{unit-sound}
+use Rattle.walk.proofs.Givens.{unit-sound, read-at}
 use Rattle.walk.proofs.Covering.{put-same}
 use Rattle.walk.proofs.Walking.{passing, some-own, goes-on, jumping, ending, pausing}
 use Rattle.walk.proofs.table.visit.Given.{Over}
@@ -28,7 +27,7 @@ read : (g : Over) (c : In-Some g) → getD (vec-items (c .args .table .now)) (c 
 read g c =
     let u = c .args .unit .now in
     let room : c .args .i - u .first < length (vec-items (c .args .table .now)) = omega (arith, c .pre .staged .long, u .«first_is», u .«end_is») in
-    ap (λ (n : ℕ). getD (vec-items (c .args .table .now)) (c .args .i - n) None) (sym (u .«first_is»)) ∙ sym (getD-read _ _ _ room (c .index .ensures) None) ∙ c .in-Some .is
+    read-at u _ (c .args .i) _ room (c .index .ensures) ∙ c .in-Some .is
 
 own : (g : Over) (c : In-Some g) → Own (program-of (c .args .unit .now)) (c .args .unit .now .id) (c .args .i)
 own g c =
@@ -42,7 +41,7 @@ returns-in-rest g c =
     let u = c .args .unit .now in
     let room : c .args .i - u .first < length (vec-items (c .args .table .now)) = omega (arith, c .pre .staged .long, u .«first_is», u .«end_is») in
     passing (program-of u) (u .id) (unit-sound u) (m .begins) (m .effect (c .args .measure .now)) (c .args .i) (omega (arith, c .pre .low, u .«first_is»)) (omega (arith, c .pre .within, u .«end_is»)) _ (c .pre .staged)
-    (ap (λ (n : ℕ). getD (vec-items (c .args .table .now)) (c .args .i - n) None) (sym (u .«first_is»)) ∙ sym (getD-read _ _ _ room (c .index .ensures) None) ∙ c .in-rest .is)
+    (read-at u _ (c .args .i) _ room (c .index .ensures) ∙ c .in-rest .is)
 
 pub following-requires : need.following-requires
 following-requires g c κs = record { own = own g (need.at·following-requires g c .In-Some); read = c .line-of-line .ensures }
