@@ -78,7 +78,7 @@ module _ (p : Program) (u : UnitId) (sound : Sound p u) (few : length (p .lines)
       let short = sound .short a in
       let d = depth-small p (l ∷ path) in
       let whole : saturated 31 (depth p path +ℤ change-of flags l (line-at p l)) ≡ depth p path +ℤ change p l =
-          ap (λ (c : ℤ). saturated 31 (depth p path +ℤ c)) (change-is l h) ∙ saturated-small (depth p (l ∷ path)) (suc (length path)) (d .0) (d .1) (omega arith) in
+      ap (λ (c : ℤ). saturated 31 (depth p path +ℤ c)) (change-is l h) ∙ saturated-small (depth p (l ∷ path)) (suc (length path)) (d .0) (d .1) (omega arith) in
       ap (depths-after flags l (line-at p l)) (depth-along a) ∙ pair whole whole
 
   -- the join of the depths is the lowest and the highest

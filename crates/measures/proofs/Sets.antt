@@ -37,7 +37,7 @@ or-bit a b k = ap (λ (x : ℕ). x % 2) (or-shr a b k) ∙ low (a / 2 ^ k) (b / 
     low : (x y : ℕ) → bitOr x y % 2 ≡ max (x % 2) (y % 2)
     low x y = let e = or-step x y in omega arith
 
-small-bit : (n k : ℕ) → n < 2 ^ k → bit-at n k ≡ 0
+pub small-bit : (n k : ℕ) → n < 2 ^ k → bit-at n k ≡ 0
 small-bit n k h = let d = div-below n (2 ^ k) 1 (pow-pos k) (omega arith) in omega arith
 
 zero-bit : (k : ℕ) → bit-at 0 k ≡ 0

@@ -45,3 +45,12 @@ holds s k = eqb (s .bits / 2 ^ k % 2) 1
 pub record Initialised-by-all (p : Program) (u : UnitId) (s : MechanismSet) : Type 0 where
   pub by-each : (k : ℕ) → k < length (p .activation) → holds s k ≡ true → (path : List ℕ) → Arrives p u path (end p u) → Initialises p k path
   pub not-by-one : (k : ℕ) → k < length (p .activation) → holds s k ≡ false → (path : List ℕ) × Arrives p u path (end p u) × (Initialises p k path → ⊥)
+
+-- some route to the unit's end leaves a mechanism uninitialised
+abbrev pub Leaves-out : Program → UnitId → Type 0
+Leaves-out p u = (k : ℕ) × (path : List ℕ) × (k < length (p .activation)) × Arrives p u path (end p u) × (Initialises p k path → ⊥)
+
+-- an answer says no exactly where some route leaves a mechanism out
+pub record Tells-left-out (p : Program) (u : UnitId) (all : Bool) : Type 0 where
+  pub on-no : all ≡ false → Leaves-out p u
+  pub on-yes : all ≡ true → Leaves-out p u → ⊥

@@ -1,14 +1,9 @@
 // What the certificate asks of a unit's routes.
-ghost use mathlib.Core.Path.{_≡_};
-ghost use Prim.Native.Nat.{max};
-ghost use lib.IntN.{pos};
 ghost use Rattle.std.specs.Of.Vec.{vec-items};
 ghost use Rattle.std.specs.Vec.{made};
 ghost use Rattle.rules.specs.Route.{Takes, Greatest};
 ghost use Rattle.walk.specs.UnitTexts.{program-of};
-ghost use Rattle.walk.specs.Walked.{Walked};
-ghost use Rattle.measures.specs.Meaning.{Bounds-hold, Surveyed, Initialised-by-all};
-ghost use Rattle.measures.specs.Models.{steps-after, depths-after, wider, beside, paired};
+ghost use Rattle.measures.specs.Meaning.{Bounds-hold, Surveyed, Initialised-by-all, Tells-left-out};
 use crate::both::Both;
 use crate::both::BothMeasure;
 use crate::depth::Depth;
@@ -26,12 +21,18 @@ use walk::whole::total;
 
 /// The steps with the depths at each own line of the unit and at its end: the greatest number of steps, and the lowest and the highest
 /// depth, with which a route comes there. The steps of MAIN ask for the bounds of the mechanisms.
-pub fn survey(unit: &UnitText<'_>, bounds: &[u32], heap: Global) -> Result<Vec<Option<(u32, (i32, i32))>>, AllocError>
+pub fn survey(
+    unit: &UnitText<'_>,
+    bounds: &[u32],
+    heap: Global,
+) -> Result<Vec<Option<(u32, (i32, i32))>>, AllocError>
     ensures { λ r. ⌜ made r (λ t. Surveyed (program-of (now (unit .entry))) (now (unit .entry) .id) (now (bounds .entry)) (vec-items t)) ⌝ }
 {
     let both = Both {
         first: Steps { bounds },
-        second: Depth { flags: unit.formed.flags.as_slice() },
+        second: Depth {
+            flags: unit.formed.flags.as_slice(),
+        },
     };
     let table = walk(&both, unit, heap)?;
     Ok(table)
@@ -56,4 +57,17 @@ pub fn initialised_by_all(unit: &UnitText<'_>, heap: Global) -> Result<Mechanism
         return Ok(MechanismSet { bits: 0 });
     };
     Ok(set)
+}
+
+/// Whether every route to the unit's end initialises every mechanism of the program.
+pub fn initialises_all(unit: &UnitText<'_>, heap: Global) -> Result<bool, AllocError>
+    ensures { λ r. ⌜ made r (λ all. Tells-left-out (program-of (now (unit .entry))) (now (unit .entry) .id) all) ⌝ }
+{
+    let set = initialised_by_all(unit, heap)?;
+    for k in 0..unit.formed.program.activation.len() {
+        if !set.holds(k) {
+            return Ok(false);
+        }
+    }
+    Ok(true)
 }

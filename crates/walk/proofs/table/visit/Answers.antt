@@ -91,7 +91,7 @@ returns-in-11 g c =
     subst (λ t. Staged (m .begins) (m .effect (c .args .measure .now)) (m .joined) p (u .id) (c .args .i + 1) t)
     (sym (c .merge .ensures ∙ put-same (m .joined) refl index (c .start .ensures)))
     (ending p (u .id) (unit-sound u) (m .begins) (m .effect (c .args .measure .now)) (c .args .i) (omega (arith, c .pre .low, u .«first_is»)) (omega (arith, c .pre .within, u .«end_is»)) _ (c .pre .staged) (c .in-Some .v) (read g (need.at·returns-in-11 g c .In-Some)) (m .laws _)
-      (kind (λ y. is-ex y ≡ true) (eq-eqb (x .code) 11 (omega arith))))
+    (kind (λ y. is-ex y ≡ true) (eq-eqb (x .code) 11 (omega arith))))
 
 pub returns-in-9 : need.returns-in-9
 returns-in-9 g c =
@@ -106,7 +106,7 @@ returns-in-9 g c =
     subst (λ t. Staged (m .begins) (m .effect (c .args .measure .now)) (m .joined) p (u .id) (c .args .i + 1) t)
     (sym (c .merge-in-9-2 .ensures ∙ put-same (m .joined) (c .merge-in-9 .ensures ∙ put-same (m .joined) refl index out) target out))
     (jumping p (u .id) (unit-sound u) (m .begins) (m .effect (c .args .measure .now)) (c .args .i) (omega (arith, c .pre .low, u .«first_is»)) (omega (arith, c .pre .within, u .«end_is»)) _ (c .pre .staged) (c .in-Some .v) (read g (need.at·returns-in-9 g c .In-Some)) (m .laws _)
-      (kind (λ y. is-jump y ≡ true) (jump-coded x (omega arith) (omega arith))))
+    (kind (λ y. is-jump y ≡ true) (jump-coded x (omega arith) (omega arith))))
 
 pub returns-in-12 : need.returns-in-12
 returns-in-12 g c =
@@ -120,8 +120,8 @@ returns-in-12 g c =
     subst (λ t. Staged (m .begins) (m .effect (c .args .measure .now)) (m .joined) p (u .id) (c .args .i + 1) t)
     (sym (c .merge-in-12-2 .ensures ∙ put-same (m .joined) (c .merge-in-12 .ensures ∙ put-same (m .joined) refl index out) index (c .start-in-12 .ensures)))
     (pausing p (u .id) (unit-sound u) (m .begins) (m .effect (c .args .measure .now)) (c .args .i) (omega (arith, c .pre .low, u .«first_is»)) (omega (arith, c .pre .within, u .«end_is»)) _ (c .pre .staged) (c .in-Some .v) (read g (need.at·returns-in-12 g c .In-Some)) (m .laws _)
-      (kind (λ y. is-exit y ≡ true) (exit-coded x (omega arith) (omega arith)))
-      (kind (λ y. is-ex y ≡ false) (not-ex-coded x (λ e. omega arith))))
+    (kind (λ y. is-exit y ≡ true) (exit-coded x (omega arith) (omega arith)))
+    (kind (λ y. is-ex y ≡ false) (not-ex-coded x (λ e. omega arith))))
 
 pub returns-in-rest-code : need.returns-in-rest-code
 returns-in-rest-code g c =
@@ -136,6 +136,6 @@ returns-in-rest-code g c =
     subst (λ t. Staged (m .begins) (m .effect (c .args .measure .now)) (m .joined) p (u .id) (c .args .i + 1) t)
     (sym (c .merge-in-rest-code .ensures ∙ put-same (m .joined) refl index out))
     (goes-on p (u .id) (unit-sound u) (m .begins) (m .effect (c .args .measure .now)) (c .args .i) (omega (arith, c .pre .low, u .«first_is»)) (omega (arith, c .pre .within, u .«end_is»)) _ (c .pre .staged) (c .in-Some .v) (read g (need.at·returns-in-rest-code g c .In-Some)) (m .laws _)
-      (kind (λ y. is-jump y ≡ false) (not-jump-coded x (⊎-elim inl (λ h. inr (omega arith)) apart)))
-      (kind (λ y. is-exit y ≡ false) (not-exit-coded x (⊎-elim (λ h. inl (omega arith)) inr apart)))
-      (kind (λ y. is-ex y ≡ false) (not-ex-coded x (λ e. ⊎-elim (λ h. omega arith) (λ h. omega arith) apart))))
+    (kind (λ y. is-jump y ≡ false) (not-jump-coded x (⊎-elim inl (λ h. inr (omega arith)) apart)))
+    (kind (λ y. is-exit y ≡ false) (not-exit-coded x (⊎-elim (λ h. inl (omega arith)) inr apart)))
+    (kind (λ y. is-ex y ≡ false) (not-ex-coded x (λ e. ⊎-elim (λ h. omega arith) (λ h. omega arith) apart))))

@@ -44,4 +44,4 @@ returns g c =
     let out : c .step .result ≡ e (c .args .i) (line-at p (c .args .i)) (c .in-Some .v) = c .step .ensures ∙ ap (λ (y : Line). e (c .args .i) y (c .in-Some .v)) (c .line-of-line .ensures) in
     subst (λ v. JoinOf (m .joined) (Stopped (m .begins) e p (u .id) (c .args .i + 1)) v) (sym (c .join .ensures ∙ ap (m .joined (c .args .best)) out))
     (takes p (u .id) (unit-sound u) (m .begins) e _ (c .pre .walked) (m .laws _) (c .args .i) _ (c .in-Some .v) (omega (arith, c .pre .low, u .«first_is»)) (omega (arith, c .pre .within, u .«end_is»))
-      (ap is-exit (sym (c .line-of-line .ensures)) ∙ sym (c .is-exit .ensures) ∙ c .if-not-is-exit .left) read (c .pre .so-far))
+    (ap is-exit (sym (c .line-of-line .ensures)) ∙ sym (c .is-exit .ensures) ∙ c .if-not-is-exit .left) read (c .pre .so-far))

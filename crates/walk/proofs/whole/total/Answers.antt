@@ -24,7 +24,7 @@ returns-in-rest g c =
     let p = program-of u in
     let room : u .end - u .first < length (vec-items (c .args .table .now)) = omega (arith, unit-sound u .order, u .«first_is», u .«end_is», c .pre .long) in
     absurd (some-end p (u .id) (unit-sound u) (m .begins) (m .effect (c .args .measure .now)) _ (c .pre)
-      (read-at-end u _ _ room (c .index .ensures) ∙ c .in-rest .is))
+    (read-at-end u _ _ room (c .index .ensures) ∙ c .in-rest .is))
 
 pub loop-i-holds : need.loop-i-holds
 loop-i-holds g c =
@@ -35,7 +35,7 @@ loop-i-holds g c =
     let room : u .end - u .first < length (vec-items (c .args .table .now)) = omega (arith, unit-sound u .order, u .«first_is», u .«end_is», c .pre .long) in
     subst (λ (n : ℕ). JoinOf (m .joined) (Stopped (m .begins) e p (u .id) n) (c .in-Some .v)) (sym (u .«first_is»))
     (from-end p (u .id) (unit-sound u) (m .begins) e _ (c .pre) (c .in-Some .v)
-      (read-at-end u _ _ room (c .index .ensures) ∙ c .in-Some .is))
+    (read-at-end u _ _ room (c .index .ensures) ∙ c .in-Some .is))
 
 pub returns : need.returns
 returns g c =
