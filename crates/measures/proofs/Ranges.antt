@@ -1,19 +1,17 @@
 -- The depths of routes: their sums never reach the ends of their range. Assumes nothing.
-use mathlib.Core.Path.{_≡_, refl, sym, ap, subst, _∙_}
+use mathlib.Core.Path.{_≡_, refl, sym, ap, _∙_}
 use mathlib.Core.Bool.{Bool, true, false, cond, _&&_}
 use mathlib.Core.List.{List, [], _∷_}
-use mathlib.Core.Logic.{_⊎_, inl, inr, ⊎-elim}
-use Prim.Native.Nat.{ℕ, suc, _+_, _-_, _^_, _<_, _≤_, min, max}
+use Prim.Native.Nat.{ℕ, suc, _+_, _-_, _<_, _≤_}
 use native.Mathlib.Omega.{arith}
 use lib.IntN.{ℤ, pos, negsuc, _+ℤ_}
 use lib.Signed.{_≤ℤ_, ltZ}
-use lib.ListN.{length, getD}
-use borrow.Author.Differences.{up, down}
+use lib.ListN.{length}
 use Rattle.std.specs.Numbers.{minZ, maxZ, saturated}
 use Rattle.std.proofs.shelf.Signed.{ints, clamps}
 use Rattle.rules.specs.declared.unit.UnitId.{UnitId}
 use Rattle.rules.specs.Op.{LDR, is}
-use Rattle.rules.specs.Program.{Program, Own, line-at, first, flag-at, pushes, pops}
+use Rattle.rules.specs.Program.{Program, line-at, pushes, pops}
 use Rattle.rules.specs.Route.{Arrives, at-entry, passed, change, depth}
 use Rattle.text.specs.Tables.{Flags-are}
 use Rattle.walk.specs.Joins.{Built, one, both, JoinOf}

@@ -1,6 +1,5 @@
 -- What the tables of a walk by the measures mean of the unit's routes. Assumes nothing.
 use denote.Ref.{now}
-use mathlib.Core.Path.{_≡_}
 use mathlib.Core.Bool.{Bool}
 use mathlib.Core.List.{List}
 use Prim.Native.Nat.{ℕ, max}
@@ -10,7 +9,7 @@ use Rattle.std.specs.declared.option.Option.{Option}
 use Rattle.rules.specs.Route.{Takes, Greatest}
 use Rattle.walk.specs.declared.unit_text.UnitText.{UnitText}
 use Rattle.walk.specs.Joins.{JoinOf}
-use Rattle.walk.specs.Walked.{Own-or-end, Brought, Whole, Walked}
+use Rattle.walk.specs.Walked.{Brought, Whole, Walked}
 use Rattle.walk.specs.UnitTexts.{program-of}
 use Rattle.walk.proofs.Givens.{formed-by-rules, lines-few, unit-real, unit-sound}
 use Rattle.measures.specs.Models.{steps-after, depths-after, wider, paired, beside}

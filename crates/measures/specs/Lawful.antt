@@ -3,7 +3,7 @@ use mathlib.Core.Path.{_≡_, refl, sym, ap, subst, _∙_}
 use mathlib.Core.Bool.{Bool}
 use mathlib.Core.List.{List}
 use mathlib.Core.Logic.{⊎-elim}
-use Prim.Native.Nat.{ℕ, zero, suc, _+_, _-_, _*_, _/_, _%_, _^_, _<_, _≤_, min, max}
+use Prim.Native.Nat.{ℕ, zero, suc, _+_, _-_, _*_, _/_, _%_, _^_, _≤_, min, max}
 use native.Mathlib.Omega.{arith}
 use lib.Bits.{bitAnd, bitOr, and-comm, and-self, and-step, or-step, or-zero-r}
 use lib.IntN.{ℤ, pos, negsuc, _+ℤ_}
@@ -13,7 +13,6 @@ use Rattle.std.proofs.shelf.Signed.{ints, clamps}
 use Rattle.std.proofs.shelf.Tests.{cases-eq}
 use Rattle.rules.specs.declared.line.Line.{Line}
 use Rattle.walk.specs.Joins.{Laws}
-use Rattle.measures.specs.declared.mechanism_set.MechanismSet.{MechanismSet}
 use Rattle.measures.specs.Models.{bound-of, steps-after, depths-after, wider, set-of, initialised-by, set-after, in-both, paired, beside}
 
 -- what holds of 0, and of each number where it holds of its half, holds of all

@@ -75,13 +75,9 @@ module _ (f : text.Formed) (k : ℕ) (within : k < vec-len (f .program .activati
       let b = s .to in
       (omega arith, omega arith)
 
-pub had-real : (p : Program) (u : UnitId) → Had p u → Real p u
+had-real : (p : Program) (u : UnitId) → Had p u → Real p u
 had-real p (Module m) h = h
 had-real p (Mechanism k) h = h
-
-pub real-had : (p : Program) (u : UnitId) → Real p u → Had p u
-real-had p (Module m) h = h
-real-had p (Mechanism k) h = h
 
 -- the unit of a unit's text is one that its program has
 pub unit-real : (u : UnitText) → Real (program-of u) (u .id)

@@ -2,19 +2,19 @@ use mathlib.Core.Path.{_≡_, refl, sym, ap, subst, _∙_}
 use mathlib.Core.Bool.{true, false}
 use mathlib.Core.Logic.{_⊎_, inl, inr, ⊎-elim}
 use native.Mathlib.Omega.{arith}
-use Prim.Native.Nat.{ℕ, _+_, _-_, _<_, _≤_}
+use Prim.Native.Nat.{_+_, _-_, _<_, _≤_}
 use lib.ListN.{length, getD, length-set}
 use Rattle.std.proofs.shelf.Tests.{eq-eqb}
 use Rattle.std.specs.Of.Vec.{vec-items}
 use Rattle.std.specs.declared.option.Option.the-variants.{Some, None}
 use Rattle.rules.specs.declared.line.Line.{Line}
 use Rattle.rules.specs.Op.{is-jump, is-exit, is-ex}
-use Rattle.rules.specs.Program.{Own, line-at, first, end, after}
+use Rattle.rules.specs.Program.{Own, line-at, first, after}
 use Rattle.walk.specs.Walked.{Own-or-end}
 use Rattle.walk.specs.Stages.{Staged}
 use Rattle.walk.specs.UnitTexts.{program-of}
 use Rattle.walk.proofs.Codes.{jump-coded, not-jump-coded, exit-coded, not-exit-coded, not-ex-coded}
-use Rattle.walk.proofs.Sound.{Sound, place-low, place-high}
+use Rattle.walk.proofs.Sound.{place-low, place-high}
 use Rattle.walk.proofs.Givens.{unit-sound, read-at}
 use Rattle.walk.proofs.Covering.{put-same}
 use Rattle.walk.proofs.Walking.{passing, some-own, goes-on, jumping, ending, pausing}
