@@ -1,0 +1,5 @@
+pub mod Longest
+pub mod Ranges
+pub mod Pairs
+pub mod Surveys
+pub mod Sets

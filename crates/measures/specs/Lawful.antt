@@ -3,7 +3,7 @@ use mathlib.Core.Path.{_≡_, refl, sym, ap, subst, _∙_}
 use mathlib.Core.Bool.{Bool}
 use mathlib.Core.List.{List}
 use mathlib.Core.Logic.{⊎-elim}
-use Prim.Native.Nat.{ℕ, zero, suc, _+_, _-_, _*_, _/_, _%_, _^_, _<_, _≤_, min, max}
+use Prim.Native.Nat.{ℕ, zero, suc, _+_, _-_, _*_, _/_, _%_, _^_, _≤_, min, max}
 use native.Mathlib.Omega.{arith}
 use lib.Bits.{bitAnd, bitOr, and-comm, and-self, and-step, or-step, or-zero-r}
 use lib.IntN.{ℤ, pos, negsuc, _+ℤ_}
@@ -13,7 +13,6 @@ use Rattle.std.proofs.shelf.Signed.{ints, clamps}
 use Rattle.std.proofs.shelf.Tests.{cases-eq}
 use Rattle.rules.specs.declared.line.Line.{Line}
 use Rattle.walk.specs.Joins.{Laws}
-use Rattle.measures.specs.declared.mechanism_set.MechanismSet.{MechanismSet}
 use Rattle.measures.specs.Models.{bound-of, steps-after, depths-after, wider, set-of, initialised-by, set-after, in-both, paired, beside}
 
 -- what holds of 0, and of each number where it holds of its half, holds of all
@@ -62,30 +61,30 @@ depth-laws flags = record {
 and-assoc : (a b c : ℕ) → bitAnd (bitAnd a b) c ≡ bitAnd a (bitAnd b c)
 and-assoc =
     bin-ind (λ a. (b c : ℕ) → bitAnd (bitAnd a b) c ≡ bitAnd a (bitAnd b c)) (λ b c. refl) (λ a ih b c.
-      let p = and-step a b in
-      let q = and-step b c in
-      let left : bitAnd a b / 2 ≡ bitAnd (a / 2) (b / 2) = omega arith in
-      let right : bitAnd b c / 2 ≡ bitAnd (b / 2) (c / 2) = omega arith in
-      let first : bitAnd (bitAnd a b) c ≡ bitAnd (bitAnd (a / 2) (b / 2)) (c / 2) * 2 + min (bitAnd a b % 2) (c % 2) = and-step (bitAnd a b) c ∙ ap (λ x. bitAnd x (c / 2) * 2 + min (bitAnd a b % 2) (c % 2)) left in
-      let last : bitAnd a (bitAnd b c) ≡ bitAnd (a / 2) (bitAnd (b / 2) (c / 2)) * 2 + min (a % 2) (bitAnd b c % 2) = and-step a (bitAnd b c) ∙ ap (λ x. bitAnd (a / 2) x * 2 + min (a % 2) (bitAnd b c % 2)) right in
-      let half = ih (b / 2) (c / 2) in
-      omega arith)
+    let p = and-step a b in
+    let q = and-step b c in
+    let left : bitAnd a b / 2 ≡ bitAnd (a / 2) (b / 2) = omega arith in
+    let right : bitAnd b c / 2 ≡ bitAnd (b / 2) (c / 2) = omega arith in
+    let first : bitAnd (bitAnd a b) c ≡ bitAnd (bitAnd (a / 2) (b / 2)) (c / 2) * 2 + min (bitAnd a b % 2) (c % 2) = and-step (bitAnd a b) c ∙ ap (λ x. bitAnd x (c / 2) * 2 + min (bitAnd a b % 2) (c % 2)) left in
+    let last : bitAnd a (bitAnd b c) ≡ bitAnd (a / 2) (bitAnd (b / 2) (c / 2)) * 2 + min (a % 2) (bitAnd b c % 2) = and-step a (bitAnd b c) ∙ ap (λ x. bitAnd (a / 2) x * 2 + min (a % 2) (bitAnd b c % 2)) right in
+    let half = ih (b / 2) (c / 2) in
+    omega arith)
 
 or-spread : (c a b : ℕ) → bitOr (bitAnd a b) c ≡ bitAnd (bitOr a c) (bitOr b c)
 or-spread =
     bin-ind (λ c. (a b : ℕ) → bitOr (bitAnd a b) c ≡ bitAnd (bitOr a c) (bitOr b c))
     (λ a b. or-zero-r (bitAnd a b) ∙ sym (ap (λ x. bitAnd x (bitOr b 0)) (or-zero-r a) ∙ ap (bitAnd a) (or-zero-r b)))
     (λ c ih a b.
-      let p = and-step a b in
-      let q = or-step a c in
-      let r = or-step b c in
-      let hp : bitAnd a b / 2 ≡ bitAnd (a / 2) (b / 2) = omega arith in
-      let hq : bitOr a c / 2 ≡ bitOr (a / 2) (c / 2) = omega arith in
-      let hr : bitOr b c / 2 ≡ bitOr (b / 2) (c / 2) = omega arith in
-      let first : bitOr (bitAnd a b) c ≡ bitOr (bitAnd (a / 2) (b / 2)) (c / 2) * 2 + max (bitAnd a b % 2) (c % 2) = or-step (bitAnd a b) c ∙ ap (λ x. bitOr x (c / 2) * 2 + max (bitAnd a b % 2) (c % 2)) hp in
-      let last : bitAnd (bitOr a c) (bitOr b c) ≡ bitAnd (bitOr (a / 2) (c / 2)) (bitOr (b / 2) (c / 2)) * 2 + min (bitOr a c % 2) (bitOr b c % 2) = and-step (bitOr a c) (bitOr b c) ∙ ap (λ x. bitAnd x (bitOr b c / 2) * 2 + min (bitOr a c % 2) (bitOr b c % 2)) hq ∙ ap (λ x. bitAnd (bitOr (a / 2) (c / 2)) x * 2 + min (bitOr a c % 2) (bitOr b c % 2)) hr in
-      let half = ih (a / 2) (b / 2) in
-      omega arith)
+    let p = and-step a b in
+    let q = or-step a c in
+    let r = or-step b c in
+    let hp : bitAnd a b / 2 ≡ bitAnd (a / 2) (b / 2) = omega arith in
+    let hq : bitOr a c / 2 ≡ bitOr (a / 2) (c / 2) = omega arith in
+    let hr : bitOr b c / 2 ≡ bitOr (b / 2) (c / 2) = omega arith in
+    let first : bitOr (bitAnd a b) c ≡ bitOr (bitAnd (a / 2) (b / 2)) (c / 2) * 2 + max (bitAnd a b % 2) (c % 2) = or-step (bitAnd a b) c ∙ ap (λ x. bitOr x (c / 2) * 2 + max (bitAnd a b % 2) (c % 2)) hp in
+    let last : bitAnd (bitOr a c) (bitOr b c) ≡ bitAnd (bitOr (a / 2) (c / 2)) (bitOr (b / 2) (c / 2)) * 2 + min (bitOr a c % 2) (bitOr b c % 2) = and-step (bitOr a c) (bitOr b c) ∙ ap (λ x. bitAnd x (bitOr b c / 2) * 2 + min (bitOr a c % 2) (bitOr b c % 2)) hq ∙ ap (λ x. bitAnd (bitOr (a / 2) (c / 2)) x * 2 + min (bitOr a c % 2) (bitOr b c % 2)) hr in
+    let half = ih (a / 2) (b / 2) in
+    omega arith)
 
 -- initialised mechanisms, joined by intersection
 pub set-laws : Laws in-both set-after

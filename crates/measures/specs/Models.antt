@@ -1,5 +1,5 @@
 -- The measures: steps, depth, initialised mechanisms, and two carried together. Assumes nothing.
-use mathlib.Core.Bool.{Bool, true, false, cond, _&&_, _||_}
+use mathlib.Core.Bool.{Bool, false, cond, _&&_, _||_}
 use mathlib.Core.List.{List}
 use Prim.Native.Nat.{ℕ, _+_, _-_, _^_, min}
 use lib.ListN.{getD}

@@ -27,7 +27,10 @@ pub impl<P: Measure, Q: Measure> Measure for Both<P, Q> as BothMeasure {
     }
 
     fn step(&self, at: usize, line: Line, v: (P::Value, Q::Value)) -> (P::Value, Q::Value) {
-        (self.first.step(at, line, v.0), self.second.step(at, line, v.1))
+        (
+            self.first.step(at, line, v.0),
+            self.second.step(at, line, v.1),
+        )
     }
 
     fn join(&self, a: (P::Value, Q::Value), b: (P::Value, Q::Value)) -> (P::Value, Q::Value) {

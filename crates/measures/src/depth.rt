@@ -21,7 +21,11 @@ impl Depth<'_> {
     fn flag(&self, at: usize) -> bool
         ensures { λ r. ⌜ r ≡ getD (now (now (self .entry) .flags)) at false ⌝ }
     {
-        if at < self.flags.len() { self.flags[at] } else { false }
+        if at < self.flags.len() {
+            self.flags[at]
+        } else {
+            false
+        }
     }
 
     // What a line adds to the depth.

@@ -4,3 +4,4 @@ pub mod depth;
 pub mod initialised;
 pub mod mechanism_set;
 pub mod steps;
+pub mod survey;

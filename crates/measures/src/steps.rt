@@ -22,7 +22,11 @@ impl Steps<'_> {
         if line.code != 22 {
             return 0;
         }
-        if k < self.bounds.len() { self.bounds[k] } else { 0 }
+        if k < self.bounds.len() {
+            self.bounds[k]
+        } else {
+            0
+        }
     }
 }
 

@@ -1,7 +1,7 @@
 -- Joins over sets, and over the sets of a table. Assumes nothing.
 use mathlib.Core.Path.{_≡_, refl, sym, ap, subst, _∙_}
 use mathlib.Core.Logic.{_⊎_, inl, inr, ⊎-elim}
-use mathlib.Core.List.{List, [], _∷_}
+use mathlib.Core.List.{List}
 use Prim.Native.Nat.{ℕ, _+_, _-_, _<_, _≤_}
 use native.Mathlib.Omega.{arith}
 use lib.ListN.{length, getD, set, length-set}
@@ -63,8 +63,8 @@ module _ {V : Type 0} {join : V → V → V} {effect : ℕ → Line → V → V}
   covers-more S T (Some a) x c j = record {
     built = both (built-in (λ _ s. inl s) (c .built)) (built-in (λ _ t. inr t) (j .built));
     takes-in = λ y m. ⊎-elim (λ s. sym (laws .assoc y a x) ∙ ap (λ z. join z x) (c .takes-in y s))
-      (λ t. ap (join y) (laws .comm a x) ∙ sym (laws .assoc y x a) ∙ ap (λ z. join z a) (j .takes-in y t) ∙ laws .comm x a)
-      m;
+        (λ t. ap (join y) (laws .comm a x) ∙ sym (laws .assoc y x a) ∙ ap (λ z. join z a) (j .takes-in y t) ∙ laws .comm x a)
+        m;
   }
 
   -- one more set at a line's place of the table
@@ -84,7 +84,7 @@ module _ {V : Type 0} {join : V → V → V} {effect : ℕ → Line → V → V}
       at-k =
           subst (Covers join (Plus S k T k)) (sym (getD-set-same t (k - from) _ None room))
           (covers-same join _ _ _ (λ _. ⊎-elim inl (λ y. inr (refl, y))) (λ _. ⊎-elim inl (λ y. inr (y .1)))
-            (covers-more (S k) T (getD t (k - from) None) x (h .at k low within) j))
+          (covers-more (S k) T (getD t (k - from) None) x (h .at k low within) j))
 
       here : (m : ℕ) → m ≡ k → At m
       here m e = subst At (sym e) at-k

@@ -1,14 +1,17 @@
 -- What a unit's text carries: its program is formed, and the program has the unit. Assumes nothing.
 use denote.Ref.{now}
-use mathlib.Core.Path.{_≡_, subst, _∙_}
-use Prim.Native.Nat.{ℕ, _<_, _≤_}
+use mathlib.Core.Path.{_≡_, sym, ap, subst, _∙_}
+use mathlib.Core.List.{List}
+use Prim.Native.Nat.{ℕ, _-_, _<_, _≤_}
 use native.Mathlib.Omega.{arith}
 use lib.ListN.{length, getD}
 use Rattle.std.specs.Of.Vec.{vec-items, vec-len}
 use Rattle.std.proofs.shelf.Lists.{getD-read}
+use Rattle.std.specs.declared.option.Option.{Option}
+use Rattle.std.specs.declared.option.Option.the-variants.{None}
 use Rattle.rules.specs.declared.unit.UnitId.{UnitId}
 use Rattle.rules.specs.declared.unit.UnitId.the-variants.{Module, Mechanism}
-use Rattle.rules.specs.Program.{Program, Real, main-module, begin-line, end-line}
+use Rattle.rules.specs.Program.{Program, Real, main-module, first, end, begin-line, end-line}
 use Rattle.rules.specs.Image.{Section, data-section, mechanism-section, module-section, line-section}
 use Rattle.rules.specs.Form.{Shaped, In-range, Bits-inside, records}
 use Rattle.rules.specs.Verdict.{Formed}
@@ -72,13 +75,9 @@ module _ (f : text.Formed) (k : ℕ) (within : k < vec-len (f .program .activati
       let b = s .to in
       (omega arith, omega arith)
 
-pub had-real : (p : Program) (u : UnitId) → Had p u → Real p u
+had-real : (p : Program) (u : UnitId) → Had p u → Real p u
 had-real p (Module m) h = h
 had-real p (Mechanism k) h = h
-
-pub real-had : (p : Program) (u : UnitId) → Real p u → Had p u
-real-had p (Module m) h = h
-real-had p (Mechanism k) h = h
 
 -- the unit of a unit's text is one that its program has
 pub unit-real : (u : UnitText) → Real (program-of u) (u .id)
@@ -86,3 +85,10 @@ unit-real u = had-real (program-of u) (u .id) (u .had)
 
 pub unit-sound : (u : UnitText) → Sound (program-of u) (u .id)
 unit-sound u = sound (program-of u) (formed-by-rules (now (u .formed))) (u .id) (unit-real u)
+
+-- what is read at a line's place of a table is that line's entry
+pub read-at : (u : UnitText) {V : Type 0} (t : List (Option V)) (l : ℕ) (x : Option V) → l - u .first < length t → x ≡ getD t (l - u .first) x → getD t (l - first (program-of u) (u .id)) None ≡ x
+read-at u t l x room r = ap (λ (n : ℕ). getD t (l - n) None) (sym (u .«first_is»)) ∙ sym (getD-read t (l - u .first) x room r None)
+
+pub read-at-end : (u : UnitText) {V : Type 0} (t : List (Option V)) (x : Option V) → u .end - u .first < length t → x ≡ getD t (u .end - u .first) x → getD t (end (program-of u) (u .id) - first (program-of u) (u .id)) None ≡ x
+read-at-end u t x room r = ap (λ (n : ℕ). getD t (n - first (program-of u) (u .id)) None) (sym (u .«end_is»)) ∙ read-at u t (u .end) x room r

@@ -5,13 +5,12 @@ use mathlib.Core.List.{List, [], _∷_}
 use mathlib.Core.Logic.{_⊎_, inl, inr}
 use Prim.Native.Nat.{ℕ, zero, suc, _+_, _-_, _<_, _≤_}
 use native.Mathlib.Omega.{arith}
-use lib.Dec.{eqb, lit<}
+use lib.Dec.{eqb}
 use lib.ListN.{length}
-use Rattle.std.specs.declared.option.Option.{Option}
 use Rattle.std.specs.declared.option.Option.the-variants.{Some, None}
-use Rattle.std.proofs.shelf.Tests.{cases-eq, cases-lt, or-left}
+use Rattle.std.proofs.shelf.Tests.{cases-eq, or-left}
 use Rattle.rules.specs.Op.{is-begin, is-end, is-jump, is-ex}
-use Rattle.rules.specs.Program.{Program, Own, Real, line-at, main-module, module-first, module-end, module-of, open-at, begin-line, end-line, first, end, after}
+use Rattle.rules.specs.Program.{Program, Own, Real, line-at, main-module, module-first, module-end, open-at, begin-line, end-line, first, end, after}
 use Rattle.rules.specs.declared.unit.UnitId.{UnitId}
 use Rattle.rules.specs.declared.unit.UnitId.the-variants.{Module, Mechanism}
 use Rattle.rules.specs.Form.{Shaped}
@@ -20,7 +19,7 @@ use Rattle.rules.specs.Route.{Way, Arrives, at-entry, passed}
 use Rattle.theory.proofs.Text.{open-more, end-within, first-end}
 use Rattle.theory.proofs.Orderly.{Orderly, orderly, clash}
 use Rattle.theory.proofs.Spans.{Span, span, span-at, since, next-begin, next-quiet}
-use Rattle.theory.proofs.Units.{own-module, own-mechanism, make-inside, make-span, own-span, after-begin, after-plain, after-stays, jump-stays, entry-stays}
+use Rattle.theory.proofs.Units.{own-module, own-mechanism, make-inside, make-span, after-begin, after-plain, after-stays, jump-stays, entry-stays}
 use Rattle.theory.proofs.Through.{own-main}
 use Rattle.theory.proofs.Ends as Ends
 use Rattle.walk.specs.Walked.{Own-or-end}

@@ -1,25 +1,25 @@
 -- The whole routes of a unit. Assumes nothing.
-use mathlib.Core.Path.{_≡_, refl, sym, ap, subst, _∙_}
-use mathlib.Core.Bool.{true, false}
+use mathlib.Core.Path.{_≡_, refl, ap, subst, _∙_}
+use mathlib.Core.Bool.{true}
 use mathlib.Core.Logic.{_⊎_, inl, inr, ⊎-elim}
-use mathlib.Core.List.{List, [], _∷_}
+use mathlib.Core.List.{List, _∷_}
 use Prim.Native.Nat.{ℕ, _+_, _-_, _<_, _≤_}
 use native.Mathlib.Omega.{arith}
-use lib.ListN.{length, getD}
+use lib.ListN.{getD}
 use Rattle.std.proofs.shelf.Tests.{cases-lt}
 use Rattle.std.specs.declared.option.Option.{Option}
 use Rattle.std.specs.declared.option.Option.the-variants.{Some, None}
 use Rattle.rules.specs.declared.line.Line.{Line}
 use Rattle.rules.specs.declared.unit.UnitId.{UnitId}
 use Rattle.rules.specs.Op.{is-exit}
-use Rattle.rules.specs.Program.{Program, Own, line-at, first, end}
+use Rattle.rules.specs.Program.{Program, line-at, first, end}
 use Rattle.rules.specs.Route.{Arrives, Route, to-end, stopped}
 use Rattle.walk.specs.Joins.{Laws, JoinOf}
 use Rattle.walk.specs.Walked.{Own-or-end, along, Brought, Whole, Walked}
 use Rattle.walk.specs.Stages.{Stopped, ended, stopped-before}
 use Rattle.walk.proofs.Sound.{Sound}
 use Rattle.walk.proofs.Covering.{Image, joinof-image, joinof-same, covers-more}
-use Rattle.walk.proofs.Walking.{none-some, some-same, own-before}
+use Rattle.walk.proofs.Walking.{none-some, some-same, own-before, Out}
 
 module _ (p : Program) (u : UnitId) (sound : Sound p u) {V : Type 0} (start : V) (effect : ℕ → Line → V → V) {join : V → V → V} (t : List (Option V)) (table : Walked start effect join p u t) where
   -- a line with an entry is an own line or the end
@@ -38,10 +38,7 @@ module _ (p : Program) (u : UnitId) (sound : Sound p u) {V : Type 0} (start : V)
   wider i v (ended a e) = ended a e
   wider i v (stopped-before a o b x e) = stopped-before a o (omega arith) x e
 
-  abbrev Out : ℕ → V → Type 0
-  Out i = Image (effect i (line-at p i)) (Brought start effect p u i)
-
-  narrower : (i : ℕ) (v : V) → Stopped start effect p u (i + 1) v → Stopped start effect p u i v ⊎ ((is-exit (line-at p i) ≡ true) × Out i v)
+  narrower : (i : ℕ) (v : V) → Stopped start effect p u (i + 1) v → Stopped start effect p u i v ⊎ ((is-exit (line-at p i) ≡ true) × Out p u sound start effect i v)
   narrower i v (ended a e) = inl (ended a e)
   narrower i v (stopped-before {a} {path} r o b x e) =
       ⊎-elim (λ lt. inl (stopped-before r o lt x e))
@@ -59,9 +56,9 @@ module _ (p : Program) (u : UnitId) (sound : Sound p u) {V : Type 0} (start : V)
   pub takes : (laws : Laws join effect) (i : ℕ) (best v : V) → first p u ≤ i → i < end p u → is-exit (line-at p i) ≡ true → getD t (i - first p u) None ≡ Some v → JoinOf join (Stopped start effect p u i) best → JoinOf join (Stopped start effect p u (i + 1)) (join best (effect i (line-at p i) v))
   takes laws i best v low h exit read j =
       joinof-same (λ x m. ⊎-elim (wider i x) (λ o. new x o) m) (λ x s. ⊎-elim inl (λ m. inr (m .1)) (narrower i x s))
-      (covers-more laws (Stopped start effect p u i) (Out i) (Some best) (effect i (line-at p i) v) j (joinof-image laws i (line-at p i) (entry-joins i v low read)))
+      (covers-more laws (Stopped start effect p u i) (Out p u sound start effect i) (Some best) (effect i (line-at p i) v) j (joinof-image laws i (line-at p i) (entry-joins i v low read)))
     where
-      new : (x : V) → Out i x → Stopped start effect p u (i + 1) x
+      new : (x : V) → Out p u sound start effect i x → Stopped start effect p u (i + 1) x
       new x o = stopped-before (o .1 .1) (own-before p u sound i h (entry-own i v low read)) (omega arith) exit (ap (effect i (line-at p i)) (o .1 .2) ∙ o .2)
 
   pub some-end : getD t (end p u - first p u) None ≡ None → ⊥

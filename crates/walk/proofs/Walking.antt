@@ -21,10 +21,10 @@ use Rattle.walk.specs.Walked.{Own-or-end, along, Brought, Walked}
 use Rattle.walk.specs.Stages.{Covers, Holds, Recent, Stage, Staged}
 use Rattle.walk.proofs.Codes.{exits-begins, jumps-ex, exit-jump}
 use Rattle.walk.proofs.Sound.{Sound, place-low, place-high}
-use Rattle.walk.proofs.Covering.{Image, Plus, put, joinof-one, joinof-image, joinof-same, covers-same, holds-more, holds-same}
+use Rattle.walk.proofs.Covering.{Image, Plus, put, joinof-one, joinof-image, joinof-same, holds-more, holds-same}
 
 -- a set that has a join has a member
-pub member : {V : Type 0} {join : V → V → V} {S : V → Type 0} {v : V} → Built join S v → (x : V) × S x
+member : {V : Type 0} {join : V → V → V} {S : V → Type 0} {v : V} → Built join S v → (x : V) × S x
 member (one s) = (_, s)
 member (both p q) = member p
 
@@ -35,7 +35,7 @@ pub some-same : {V : Type 0} {o : Option V} {v w : V} → o ≡ Some v → o ≡
 some-same p q = cc
 
 -- the line after one of EX type is the next
-pub after-exit : (p : Program) (l : ℕ) → is-exit (line-at p l) ≡ true → after p l ≡ l + 1
+after-exit : (p : Program) (l : ℕ) → is-exit (line-at p l) ≡ true → after p l ≡ l + 1
 after-exit p l x = cond-false (is-begin (line-at p l)) (end-line p (line-at p l .operand) + 1) (l + 1) (exits-begins (line-at p l) x)
 
 module _ (p : Program) (u : UnitId) (sound : Sound p u) where

@@ -16,7 +16,7 @@ abbrev pub kind-count : Program → UnitId → ℕ
 kind-count p (Module m) = length (p .lengths)
 kind-count p (Mechanism k) = length (p .activation)
 
--- the program has the unit
+-- the program has the unit: `Real` as one inequality, which a type can carry
 abbrev pub Had : Program → UnitId → Type 0
 Had p u = number-of u < kind-count p u
 

@@ -21,7 +21,11 @@ pub fn following(unit: &UnitText<'_>, l: usize, line: Line) -> usize
     requires read { ⌜ line ≡ line-at (program-of (now unit)) l ⌝ }
     ensures { λ r. ⌜ r ≡ after (program-of (now (unit .entry))) l ⌝ }
 {
-    if line.code == 22 { unit.formed.ends[line.operand as usize] + 1 } else { l + 1 }
+    if line.code == 22 {
+        unit.formed.ends[line.operand as usize] + 1
+    } else {
+        l + 1
+    }
 }
 
 // Whether a line is EX, EX0 or EX1.

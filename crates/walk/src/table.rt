@@ -52,11 +52,14 @@ fn visit<M: Measure>(measure: &M, unit: &UnitText<'_>, i: usize, table: &mut Vec
     let next = following(unit, i, line) - unit.first;
     let out = measure.step(i, line, v);
     match line.code {
+        // JL0 and JL1
         9 | 10 => {
             merge(measure, table, next, out);
             merge(measure, table, line.operand as usize - unit.first, out);
         }
+        // EX
         11 => merge(measure, table, next, measure.start()),
+        // EX0 and EX1
         12 | 13 => {
             merge(measure, table, next, out);
             merge(measure, table, next, measure.start());
@@ -67,7 +70,11 @@ fn visit<M: Measure>(measure: &M, unit: &UnitText<'_>, i: usize, table: &mut Vec
 
 /// The walk over a unit: for each own line and for the end, the join over all routes that arrive there. The table has a place for each line
 /// from the first to the end.
-pub fn walk<M: Measure>(measure: &M, unit: &UnitText<'_>, heap: Global) -> Result<Vec<Option<M::Value>>, AllocError>
+pub fn walk<M: Measure>(
+    measure: &M,
+    unit: &UnitText<'_>,
+    heap: Global,
+) -> Result<Vec<Option<M::Value>>, AllocError>
     ensures { λ r. ⌜ made r (λ t. Walked begins (effect (now (measure .entry))) joined (program-of (now (unit .entry))) (now (unit .entry) .id) (vec-items t)) ⌝ }
 {
     let mut table = blank(unit.end - unit.first, heap)?;

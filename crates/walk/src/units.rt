@@ -18,7 +18,12 @@ pub fn unit_text(formed: &Formed, id: UnitId) -> Option<UnitText<'_>>
             }
             let first = formed.starts[m];
             let end = formed.starts[m + 1];
-            Some(UnitText { formed, id, first, end })
+            Some(UnitText {
+                formed,
+                id,
+                first,
+                end,
+            })
         }
         UnitId::Mechanism(k) => {
             if k >= formed.program.activation.len() {
@@ -26,7 +31,12 @@ pub fn unit_text(formed: &Formed, id: UnitId) -> Option<UnitText<'_>>
             }
             let first = formed.begins[k] + 1;
             let end = formed.ends[k] + 1;
-            Some(UnitText { formed, id, first, end })
+            Some(UnitText {
+                formed,
+                id,
+                first,
+                end,
+            })
         }
     }
 }

@@ -11,7 +11,13 @@ use crate::measure::Measure;
 use crate::unit_text::UnitText;
 
 // Takes in the routes that stop at line i.
-fn finish<M: Measure>(measure: &M, unit: &UnitText<'_>, i: usize, table: &Vec<Option<M::Value>>, best: M::Value) -> M::Value
+fn finish<M: Measure>(
+    measure: &M,
+    unit: &UnitText<'_>,
+    i: usize,
+    table: &Vec<Option<M::Value>>,
+    best: M::Value,
+) -> M::Value
     requires low { ⌜ now unit .first ≤ i ⌝ }
     requires within { ⌜ i < now unit .end ⌝ }
     requires walked { ⌜ Walked begins (effect (now measure)) joined (program-of (now unit)) (now unit .id) (vec-items (now table)) ⌝ }
@@ -29,7 +35,11 @@ fn finish<M: Measure>(measure: &M, unit: &UnitText<'_>, i: usize, table: &Vec<Op
 }
 
 /// The join over all whole routes of the unit, from the table of its walk.
-pub fn total<M: Measure>(measure: &M, unit: &UnitText<'_>, table: &Vec<Option<M::Value>>) -> M::Value
+pub fn total<M: Measure>(
+    measure: &M,
+    unit: &UnitText<'_>,
+    table: &Vec<Option<M::Value>>,
+) -> M::Value
     requires { ⌜ Walked begins (effect (now measure)) joined (program-of (now unit)) (now unit .id) (vec-items (now table)) ⌝ }
     ensures { λ r. ⌜ JoinOf joined (Whole begins (effect (now (measure .entry))) (program-of (now (unit .entry))) (now (unit .entry) .id)) r ⌝ }
 {

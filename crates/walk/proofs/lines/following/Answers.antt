@@ -1,15 +1,12 @@
-use mathlib.Core.Path.{_≡_, sym, ap, subst, _∙_}
+use mathlib.Core.Path.{_≡_, sym, ap, _∙_}
 use mathlib.Core.Bool.{true}
 use native.Mathlib.Omega.{arith}
 use Prim.Native.Nat.{ℕ, _+_, _<_}
-use lib.Dec.{eqb}
-use lib.ListN.{length}
-use Rattle.std.specs.Of.Vec.{vec-items, vec-len}
+use Rattle.std.specs.Of.Vec.{vec-len}
 use Rattle.std.proofs.shelf.Tests.{eq-eqb, cond-true}
 use Rattle.rules.specs.declared.line.Line.{Line}
-use Rattle.rules.specs.declared.unit.UnitId.{UnitId}
 use Rattle.rules.specs.Op.{is-begin}
-use Rattle.rules.specs.Program.{Program, Own, line-at, end-line, after}
+use Rattle.rules.specs.Program.{Own, line-at, end-line}
 use Rattle.walk.specs.declared.unit_text.UnitText.{UnitText}
 use Rattle.walk.specs.UnitTexts.{program-of}
 use Rattle.walk.proofs.Givens.{unit-sound, end-read, span-few}

@@ -2,21 +2,20 @@ use mathlib.Core.Path.{_≡_, refl, sym, ap, subst, _∙_}
 use mathlib.Core.Bool.{true, false}
 use mathlib.Core.Logic.{_⊎_, inl, inr, ⊎-elim}
 use native.Mathlib.Omega.{arith}
-use Prim.Native.Nat.{ℕ, _+_, _-_, _<_, _≤_}
+use Prim.Native.Nat.{_+_, _-_, _<_, _≤_}
 use lib.ListN.{length, getD, length-set}
-use Rattle.std.proofs.shelf.Lists.{getD-read}
 use Rattle.std.proofs.shelf.Tests.{eq-eqb}
 use Rattle.std.specs.Of.Vec.{vec-items}
 use Rattle.std.specs.declared.option.Option.the-variants.{Some, None}
 use Rattle.rules.specs.declared.line.Line.{Line}
 use Rattle.rules.specs.Op.{is-jump, is-exit, is-ex}
-use Rattle.rules.specs.Program.{Own, line-at, first, end, after}
+use Rattle.rules.specs.Program.{Own, line-at, first, after}
 use Rattle.walk.specs.Walked.{Own-or-end}
 use Rattle.walk.specs.Stages.{Staged}
 use Rattle.walk.specs.UnitTexts.{program-of}
 use Rattle.walk.proofs.Codes.{jump-coded, not-jump-coded, exit-coded, not-exit-coded, not-ex-coded}
-use Rattle.walk.proofs.Sound.{Sound, place-low, place-high}
-use Rattle.walk.proofs.Givens.{unit-sound}
+use Rattle.walk.proofs.Sound.{place-low, place-high}
+use Rattle.walk.proofs.Givens.{unit-sound, read-at}
 use Rattle.walk.proofs.Covering.{put-same}
 use Rattle.walk.proofs.Walking.{passing, some-own, goes-on, jumping, ending, pausing}
 use Rattle.walk.proofs.table.visit.Given.{Over}
@@ -28,7 +27,7 @@ read : (g : Over) (c : In-Some g) → getD (vec-items (c .args .table .now)) (c 
 read g c =
     let u = c .args .unit .now in
     let room : c .args .i - u .first < length (vec-items (c .args .table .now)) = omega (arith, c .pre .staged .long, u .«first_is», u .«end_is») in
-    ap (λ (n : ℕ). getD (vec-items (c .args .table .now)) (c .args .i - n) None) (sym (u .«first_is»)) ∙ sym (getD-read _ _ _ room (c .index .ensures) None) ∙ c .in-Some .is
+    read-at u _ (c .args .i) _ room (c .index .ensures) ∙ c .in-Some .is
 
 own : (g : Over) (c : In-Some g) → Own (program-of (c .args .unit .now)) (c .args .unit .now .id) (c .args .i)
 own g c =
@@ -42,7 +41,7 @@ returns-in-rest g c =
     let u = c .args .unit .now in
     let room : c .args .i - u .first < length (vec-items (c .args .table .now)) = omega (arith, c .pre .staged .long, u .«first_is», u .«end_is») in
     passing (program-of u) (u .id) (unit-sound u) (m .begins) (m .effect (c .args .measure .now)) (c .args .i) (omega (arith, c .pre .low, u .«first_is»)) (omega (arith, c .pre .within, u .«end_is»)) _ (c .pre .staged)
-    (ap (λ (n : ℕ). getD (vec-items (c .args .table .now)) (c .args .i - n) None) (sym (u .«first_is»)) ∙ sym (getD-read _ _ _ room (c .index .ensures) None) ∙ c .in-rest .is)
+    (read-at u _ (c .args .i) _ room (c .index .ensures) ∙ c .in-rest .is)
 
 pub following-requires : need.following-requires
 following-requires g c κs = record { own = own g (need.at·following-requires g c .In-Some); read = c .line-of-line .ensures }
@@ -92,7 +91,7 @@ returns-in-11 g c =
     subst (λ t. Staged (m .begins) (m .effect (c .args .measure .now)) (m .joined) p (u .id) (c .args .i + 1) t)
     (sym (c .merge .ensures ∙ put-same (m .joined) refl index (c .start .ensures)))
     (ending p (u .id) (unit-sound u) (m .begins) (m .effect (c .args .measure .now)) (c .args .i) (omega (arith, c .pre .low, u .«first_is»)) (omega (arith, c .pre .within, u .«end_is»)) _ (c .pre .staged) (c .in-Some .v) (read g (need.at·returns-in-11 g c .In-Some)) (m .laws _)
-      (kind (λ y. is-ex y ≡ true) (eq-eqb (x .code) 11 (omega arith))))
+    (kind (λ y. is-ex y ≡ true) (eq-eqb (x .code) 11 (omega arith))))
 
 pub returns-in-9 : need.returns-in-9
 returns-in-9 g c =
@@ -107,7 +106,7 @@ returns-in-9 g c =
     subst (λ t. Staged (m .begins) (m .effect (c .args .measure .now)) (m .joined) p (u .id) (c .args .i + 1) t)
     (sym (c .merge-in-9-2 .ensures ∙ put-same (m .joined) (c .merge-in-9 .ensures ∙ put-same (m .joined) refl index out) target out))
     (jumping p (u .id) (unit-sound u) (m .begins) (m .effect (c .args .measure .now)) (c .args .i) (omega (arith, c .pre .low, u .«first_is»)) (omega (arith, c .pre .within, u .«end_is»)) _ (c .pre .staged) (c .in-Some .v) (read g (need.at·returns-in-9 g c .In-Some)) (m .laws _)
-      (kind (λ y. is-jump y ≡ true) (jump-coded x (omega arith) (omega arith))))
+    (kind (λ y. is-jump y ≡ true) (jump-coded x (omega arith) (omega arith))))
 
 pub returns-in-12 : need.returns-in-12
 returns-in-12 g c =
@@ -121,8 +120,8 @@ returns-in-12 g c =
     subst (λ t. Staged (m .begins) (m .effect (c .args .measure .now)) (m .joined) p (u .id) (c .args .i + 1) t)
     (sym (c .merge-in-12-2 .ensures ∙ put-same (m .joined) (c .merge-in-12 .ensures ∙ put-same (m .joined) refl index out) index (c .start-in-12 .ensures)))
     (pausing p (u .id) (unit-sound u) (m .begins) (m .effect (c .args .measure .now)) (c .args .i) (omega (arith, c .pre .low, u .«first_is»)) (omega (arith, c .pre .within, u .«end_is»)) _ (c .pre .staged) (c .in-Some .v) (read g (need.at·returns-in-12 g c .In-Some)) (m .laws _)
-      (kind (λ y. is-exit y ≡ true) (exit-coded x (omega arith) (omega arith)))
-      (kind (λ y. is-ex y ≡ false) (not-ex-coded x (λ e. omega arith))))
+    (kind (λ y. is-exit y ≡ true) (exit-coded x (omega arith) (omega arith)))
+    (kind (λ y. is-ex y ≡ false) (not-ex-coded x (λ e. omega arith))))
 
 pub returns-in-rest-code : need.returns-in-rest-code
 returns-in-rest-code g c =
@@ -137,6 +136,6 @@ returns-in-rest-code g c =
     subst (λ t. Staged (m .begins) (m .effect (c .args .measure .now)) (m .joined) p (u .id) (c .args .i + 1) t)
     (sym (c .merge-in-rest-code .ensures ∙ put-same (m .joined) refl index out))
     (goes-on p (u .id) (unit-sound u) (m .begins) (m .effect (c .args .measure .now)) (c .args .i) (omega (arith, c .pre .low, u .«first_is»)) (omega (arith, c .pre .within, u .«end_is»)) _ (c .pre .staged) (c .in-Some .v) (read g (need.at·returns-in-rest-code g c .In-Some)) (m .laws _)
-      (kind (λ y. is-jump y ≡ false) (not-jump-coded x (⊎-elim inl (λ h. inr (omega arith)) apart)))
-      (kind (λ y. is-exit y ≡ false) (not-exit-coded x (⊎-elim (λ h. inl (omega arith)) inr apart)))
-      (kind (λ y. is-ex y ≡ false) (not-ex-coded x (λ e. ⊎-elim (λ h. omega arith) (λ h. omega arith) apart))))
+    (kind (λ y. is-jump y ≡ false) (not-jump-coded x (⊎-elim inl (λ h. inr (omega arith)) apart)))
+    (kind (λ y. is-exit y ≡ false) (not-exit-coded x (⊎-elim (λ h. inl (omega arith)) inr apart)))
+    (kind (λ y. is-ex y ≡ false) (not-ex-coded x (λ e. ⊎-elim (λ h. omega arith) (λ h. omega arith) apart))))

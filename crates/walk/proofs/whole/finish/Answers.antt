@@ -1,18 +1,16 @@
 use mathlib.Core.Path.{_≡_, sym, ap, subst, _∙_}
 use native.Mathlib.Omega.{arith}
-use Prim.Native.Nat.{ℕ, _+_, _-_, _<_}
-use lib.ListN.{length, getD}
-use Rattle.std.proofs.shelf.Lists.{getD-read}
+use Prim.Native.Nat.{_+_, _-_, _<_}
+use lib.ListN.{length}
 use Rattle.std.proofs.shelf.Tests.{both-ways}
 use Rattle.std.specs.Of.Vec.{vec-items}
-use Rattle.std.specs.declared.option.Option.the-variants.{Some, None}
 use Rattle.rules.specs.declared.line.Line.{Line}
 use Rattle.rules.specs.Op.{is-exit}
-use Rattle.rules.specs.Program.{line-at, first}
+use Rattle.rules.specs.Program.{line-at}
 use Rattle.walk.specs.Joins.{JoinOf}
 use Rattle.walk.specs.Stages.{Stopped}
 use Rattle.walk.specs.UnitTexts.{program-of}
-use Rattle.walk.proofs.Givens.{unit-sound}
+use Rattle.walk.proofs.Givens.{unit-sound, read-at}
 use Rattle.walk.proofs.Totals.{keeps, nobody, takes}
 use Rattle.walk.proofs.whole.finish.Needs as need
 
@@ -21,7 +19,7 @@ returns-in-rest g c =
     let m = g .M·Measure in
     let u = c .args .unit .now in
     let room : c .args .i - u .first < length (vec-items (c .args .table .now)) = omega (arith, c .pre .walked .long, u .«first_is», u .«end_is») in
-    let read = ap (λ (n : ℕ). getD (vec-items (c .args .table .now)) (c .args .i - n) None) (sym (u .«first_is»)) ∙ sym (getD-read _ _ _ room (c .index .ensures) None) ∙ c .in-rest .is in
+    let read = read-at u _ (c .args .i) _ room (c .index .ensures) ∙ c .in-rest .is in
     keeps (program-of u) (u .id) (unit-sound u) (m .begins) (m .effect (c .args .measure .now)) _ (c .pre .walked) (c .args .i) _
     (λ path a _. nobody (program-of u) (u .id) (unit-sound u) (m .begins) (m .effect (c .args .measure .now)) _ (c .pre .walked) (c .args .i) read path a)
     (c .pre .so-far)
@@ -42,8 +40,8 @@ returns g c =
     let p = program-of u in
     let e = m .effect (c .args .measure .now) in
     let room : c .args .i - u .first < length (vec-items (c .args .table .now)) = omega (arith, c .pre .walked .long, u .«first_is», u .«end_is») in
-    let read = ap (λ (n : ℕ). getD (vec-items (c .args .table .now)) (c .args .i - n) None) (sym (u .«first_is»)) ∙ sym (getD-read _ _ _ room (c .index .ensures) None) ∙ c .in-Some .is in
+    let read = read-at u _ (c .args .i) _ room (c .index .ensures) ∙ c .in-Some .is in
     let out : c .step .result ≡ e (c .args .i) (line-at p (c .args .i)) (c .in-Some .v) = c .step .ensures ∙ ap (λ (y : Line). e (c .args .i) y (c .in-Some .v)) (c .line-of-line .ensures) in
     subst (λ v. JoinOf (m .joined) (Stopped (m .begins) e p (u .id) (c .args .i + 1)) v) (sym (c .join .ensures ∙ ap (m .joined (c .args .best)) out))
     (takes p (u .id) (unit-sound u) (m .begins) e _ (c .pre .walked) (m .laws _) (c .args .i) _ (c .in-Some .v) (omega (arith, c .pre .low, u .«first_is»)) (omega (arith, c .pre .within, u .«end_is»))
-      (ap is-exit (sym (c .line-of-line .ensures)) ∙ sym (c .is-exit .ensures) ∙ c .if-not-is-exit .left) read (c .pre .so-far))
+    (ap is-exit (sym (c .line-of-line .ensures)) ∙ sym (c .is-exit .ensures) ∙ c .if-not-is-exit .left) read (c .pre .so-far))

@@ -1,15 +1,13 @@
-use mathlib.Core.Path.{_≡_, sym, ap, subst, _∙_}
+use mathlib.Core.Path.{_≡_, sym, subst, _∙_}
 use native.Mathlib.Omega.{arith}
 use Prim.Native.Nat.{ℕ, _-_, _<_}
-use lib.ListN.{length, getD}
-use Rattle.std.proofs.shelf.Lists.{getD-read}
+use lib.ListN.{length}
 use Rattle.std.specs.Of.Vec.{vec-items}
-use Rattle.std.specs.declared.option.Option.the-variants.{Some, None}
-use Rattle.rules.specs.Program.{first, end}
+use Rattle.rules.specs.Program.{end}
 use Rattle.walk.specs.Joins.{JoinOf}
 use Rattle.walk.specs.Stages.{Stopped}
 use Rattle.walk.specs.UnitTexts.{program-of}
-use Rattle.walk.proofs.Givens.{unit-sound}
+use Rattle.walk.proofs.Givens.{unit-sound, read-at-end}
 use Rattle.walk.proofs.Totals.{some-end, from-end, in-total}
 use Rattle.walk.proofs.whole.total.Needs as need
 
@@ -25,9 +23,8 @@ returns-in-rest g c =
     let u = c .args .unit .now in
     let p = program-of u in
     let room : u .end - u .first < length (vec-items (c .args .table .now)) = omega (arith, unit-sound u .order, u .«first_is», u .«end_is», c .pre .long) in
-    let place : end p (u .id) - first p (u .id) ≡ u .end - u .first = omega (arith, u .«first_is», u .«end_is») in
     absurd (some-end p (u .id) (unit-sound u) (m .begins) (m .effect (c .args .measure .now)) _ (c .pre)
-      (ap (λ (n : ℕ). getD (vec-items (c .args .table .now)) n None) place ∙ sym (getD-read _ _ _ room (c .index .ensures) None) ∙ c .in-rest .is))
+    (read-at-end u _ _ room (c .index .ensures) ∙ c .in-rest .is))
 
 pub loop-i-holds : need.loop-i-holds
 loop-i-holds g c =
@@ -36,10 +33,9 @@ loop-i-holds g c =
     let p = program-of u in
     let e = m .effect (c .args .measure .now) in
     let room : u .end - u .first < length (vec-items (c .args .table .now)) = omega (arith, unit-sound u .order, u .«first_is», u .«end_is», c .pre .long) in
-    let place : end p (u .id) - first p (u .id) ≡ u .end - u .first = omega (arith, u .«first_is», u .«end_is») in
     subst (λ (n : ℕ). JoinOf (m .joined) (Stopped (m .begins) e p (u .id) n) (c .in-Some .v)) (sym (u .«first_is»))
     (from-end p (u .id) (unit-sound u) (m .begins) e _ (c .pre) (c .in-Some .v)
-      (ap (λ (n : ℕ). getD (vec-items (c .args .table .now)) n None) place ∙ sym (getD-read _ _ _ room (c .index .ensures) None) ∙ c .in-Some .is))
+    (read-at-end u _ _ room (c .index .ensures) ∙ c .in-Some .is))
 
 pub returns : need.returns
 returns g c =

@@ -1,8 +1,4 @@
-use mathlib.Core.Bool.{true, false, cond}
-use mathlib.Core.Path.{_≡_}
-use Prim.Native.Nat.{_≤_}
 use native.Mathlib.Omega.{arith}
-use lib.ListN.{length}
 use Rattle.std.proofs.shelf.Lists.{getD-past}
 use Rattle.std.proofs.shelf.Ways.{tells}
 use Rattle.measures.proofs.steps.Steps.bound.Needs as need
