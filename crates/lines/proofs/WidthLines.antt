@@ -21,6 +21,7 @@ module _ (f : Bool) (activation : List ℕ) (r : Registers) (bytes : List ℕ) w
     where
       at : (w : ℕ) → eqb m w ≡ true → effect f activation (q w) r bytes ≡ effect f activation (q m) r bytes
       at w e = ap (λ (n : ℕ). effect f activation (q n) r bytes) (sym (eqb-true m w e))
+
       go : (a b d : Bool) → eqb m 1 ≡ a → eqb m 2 ≡ b → eqb m 4 ≡ d → Ruled (of (cond a (Some (q 1)) (cond b (Some (q 2)) (cond d (Some (q 4)) None)))) → of (cond a (Some (q 1)) (cond b (Some (q 2)) (cond d (Some (q 4)) None))) ≡ effect f activation (q m) r bytes
       go true b d x y z h = at 1 x
       go false true d x y z h = at 2 y

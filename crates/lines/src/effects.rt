@@ -9,10 +9,16 @@ ghost use Rattle.rules.specs.Effect.{joined, effect};
 ghost use Rattle.lines.specs.declared.turn.Turn.the-variants.{Follows};
 ghost use Rattle.lines.specs.Widths.{Width};
 ghost use Rattle.lines.specs.Views.{registers-of, done, alone, logic-of, Ruled};
-use crate::bits::{bit_at, set_bit};
-use crate::numbers::{absolute, add, at_least, number_at, store_number};
+use crate::bits::bit_at;
+use crate::bits::set_bit;
+use crate::numbers::absolute;
+use crate::numbers::add;
+use crate::numbers::at_least;
+use crate::numbers::number_at;
+use crate::numbers::store_number;
 use crate::registers::Registers;
-use crate::stack::{pop, push};
+use crate::stack::pop;
+use crate::stack::push;
 use crate::turn::Turn;
 
 /// LDR: RLO becomes the bit, or its negation; where the text flag is set, the old RLO is pushed first.

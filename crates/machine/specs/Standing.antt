@@ -1,6 +1,6 @@
 -- What holds where a pass stands at a line, so that the line can be executed. Assumes nothing.
 use mathlib.Core.Path.{_≡_}
-use Prim.Native.Nat.{ℕ, _<_, _≤_}
+use Prim.Native.Nat.{ℕ}
 use lib.ListN.{length}
 use Rattle.rules.specs.declared.unit.UnitId.{UnitId}
 use Rattle.rules.specs.Op.{decode}

@@ -16,11 +16,21 @@ fn is_width(mode: u8) -> bool
 }
 
 /// Whether a line is known, its operand stands inside the data or names a mechanism, and the stack has room or a cell.
-pub fn has_rule(line: Line, flagged: bool, activation: &[u16], registers: &Registers, bytes: &[u8]) -> bool
+pub fn has_rule(
+    line: Line,
+    flagged: bool,
+    activation: &[u16],
+    registers: &Registers,
+    bytes: &[u8],
+) -> bool
     ensures rule { λ r. ⌜ (r ≡ true → Ruled (line-effect flagged (now (activation .entry)) (decode line) (registers-of (now (registers .entry))) (now (bytes .entry)))) ⌝ }
     ensures mechanism { λ r. ⌜ (r ≡ true → 22 ≤ line .code → line .operand < length (now (activation .entry))) ⌝ }
 {
-    let Line { code, mode, operand } = line;
+    let Line {
+        code,
+        mode,
+        operand,
+    } = line;
     let place = operand as usize;
     let bit = place / 8 < bytes.len();
     match code {
@@ -31,7 +41,9 @@ pub fn has_rule(line: Line, flagged: bool, activation: &[u16], registers: &Regis
         6 => mode == 0 && bit,
         16..=17 | 19 | 21 => is_width(mode) && place + mode as usize <= bytes.len(),
         20 => is_width(mode),
-        22..=24 => mode == 0 && place < activation.len() && (activation[place] as usize) / 8 < bytes.len(),
+        22..=24 => mode == 0
+            && place < activation.len()
+            && (activation[place] as usize) / 8 < bytes.len(),
         _ => false,
     }
 }

@@ -11,8 +11,11 @@ mod tests {
 
     // The turns by number.
     const FOLLOWS: (u8, u16) = (0, 0);
+
     const STOPS: (u8, u16) = (2, 0);
+
     const WAITS: (u8, u16) = (3, 0);
+
     const RESUMES: (u8, u16) = (4, 0);
 
     fn turn_number(turn: Turn) -> (u8, u16) {
@@ -38,19 +41,61 @@ mod tests {
 
     // What the line of a code, a mode and an operand leaves, at an RLO and a DR, if a rule exists for it.
     fn tried((code, mode, operand): (u8, u8, u16), (rlo, dr): (bool, u32)) -> Option<Left> {
-        let line = Line { code, mode, operand };
+        let line = Line {
+            code,
+            mode,
+            operand,
+        };
         let activation = [64u16, 65];
-        let mut bytes = [1, 0, 0, 0, 0, 0, 0, 0, 2, 0, 0, 0, 0, 0, 0, 0, 10, 1, 0, 128u8];
-        let mut registers = Registers { rlo, dr, cells: [true; 8], depth: 1 };
+        let mut bytes = [
+            1,
+            0,
+            0,
+            0,
+            0,
+            0,
+            0,
+            0,
+            2,
+            0,
+            0,
+            0,
+            0,
+            0,
+            0,
+            0,
+            10,
+            1,
+            0,
+            128u8,
+        ];
+        let mut registers = Registers {
+            rlo,
+            dr,
+            cells: [true; 8],
+            depth: 1,
+        };
         if !has_rule(line, true, &activation, &registers, &bytes) {
             return None;
         }
         let turn = step(line, true, &activation, &mut registers, &mut bytes);
-        Some(Left { turn: turn_number(turn), rlo: registers.rlo, dr: registers.dr, depth: registers.depth, bytes })
+        Some(Left {
+            turn: turn_number(turn),
+            rlo: registers.rlo,
+            dr: registers.dr,
+            depth: registers.depth,
+            bytes,
+        })
     }
 
     // The turn, the RLO and the number of cells that a line leaves at an RLO.
-    fn leads(line: (u8, u8, u16), rlo: bool, turn: (u8, u16), rlo_after: bool, depth: usize) -> Result<(), Fail> {
+    fn leads(
+        line: (u8, u8, u16),
+        rlo: bool,
+        turn: (u8, u16),
+        rlo_after: bool,
+        depth: usize,
+    ) -> Result<(), Fail> {
         let Some(left) = tried(line, (rlo, 7)) else {
             return Err(Fail::new("no rule"));
         };

@@ -28,7 +28,7 @@ step-turn-requires c κs =
     record {
       rule = subst (λ (x : Option Done). Ruled x) (sym same) (c .pre .rule);
       mechanism = subst (λ (x : Line). 22 ≤ x .code → x .operand < length (c .as-slice .result .now)) (sym (line-read (a .formed) l w (c .index .result .now) (c .index .ensures)))
-        (subst (λ (xs : List ℕ). 22 ≤ line-at (program-of a) l .code → line-at (program-of a) l .operand < length xs) (sym (c .as-slice .ensures .value)) (mechanism-inside (program-of a) (accepted a) l w));
+          (subst (λ (xs : List ℕ). 22 ≤ line-at (program-of a) l .code → line-at (program-of a) l .operand < length xs) (sym (c .as-slice .ensures .value)) (mechanism-inside (program-of a) (accepted a) l w));
     }
 
 pub take-turn-requires : need.take-turn-requires

@@ -16,7 +16,7 @@ returns-else-not-flagged c =
     let bit : x .operand < 8 * length (c .args .bytes .now) = omega arith in
     record {
       rule = λ h. (let room : length (cells-of rs) < 8 = omega (arith, many, ltb-true (rs .depth) 8 h) in
-        load-ruled (c .args .flagged) (c .args .activation .now) (registers-of rs) (c .args .bytes .now) x (c .in-1 .is) (c .if-bit .taken .0) bit room);
+          load-ruled (c .args .flagged) (c .args .activation .now) (registers-of rs) (c .args .bytes .now) x (c .in-1 .is) (c .if-bit .taken .0) bit room);
       mechanism = λ h k. absurd (omega (arith, k, c .in-1 .is));
     }
 
@@ -30,6 +30,6 @@ returns-in-2-to-4 c =
     let high : x .code < 5 = omega arith in
     record {
       rule = λ h. (let cell : 0 < length (cells-of rs) = omega (arith, many, ltb-true 0 (rs .depth) h) in
-        cell-ruled (c .args .flagged) (c .args .activation .now) (registers-of rs) (c .args .bytes .now) x low high (c .if-mode-eq2 .taken) cell);
+          cell-ruled (c .args .flagged) (c .args .activation .now) (registers-of rs) (c .args .bytes .now) x low high (c .if-mode-eq2 .taken) cell);
       mechanism = λ h k. absurd (omega (arith, k, high));
     }
