@@ -31,6 +31,7 @@ mod tests {
         }
     }
 
+    #[derive(Drop)]
     struct Left {
         turn: (u8, u16),
         rlo: bool,
