@@ -3,7 +3,7 @@ ghost use mathlib.Core.Path.{_≡_};
 ghost use Prim.Native.Nat.{_<_, _≤_};
 ghost use lib.ListN.{length};
 ghost use Rattle.rules.specs.Op.{decode};
-ghost use Rattle.lines.specs.Views.{registers-of, done, line-effect, Ruled};
+ghost use Rattle.lines.specs.Views.{registers-of, done, line-effect, Has-rule};
 use crate::effects::add_number;
 use crate::effects::begin;
 use crate::effects::combine;
@@ -27,7 +27,7 @@ pub fn step(
     registers: &mut Registers,
     bytes: &mut [u8],
 ) -> Turn
-    requires rule { ⌜ Ruled (line-effect flagged (now activation) (decode line) (registers-of (now registers)) (now bytes)) ⌝ }
+    requires rule { ⌜ Has-rule (line-effect flagged (now activation) (decode line) (registers-of (now registers)) (now bytes)) ⌝ }
     requires mechanism { ⌜ (22 ≤ line .code → line .operand < length (now activation)) ⌝ }
     ensures { λ r. ⌜ line-effect flagged (now (activation .entry)) (decode line) (registers-of (now (registers .entry))) (now (bytes .entry)) ≡ done (now (registers .exit)) (now (bytes .exit)) r ⌝ }
 {

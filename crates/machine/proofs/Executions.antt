@@ -32,7 +32,7 @@ use Rattle.theory.proofs.Ruled.{formed, balanced}
 use Rattle.theory.proofs.Ends.{bound}
 use Rattle.lines.specs.declared.turn.Turn as machine
 use Rattle.lines.specs.declared.turn.Turn.the-variants.{Follows, Goes, Stops, Waits, Resumes, Enters, Skips, Resets}
-use Rattle.lines.specs.Views.{turn-of, line-effect, Ruled}
+use Rattle.lines.specs.Views.{turn-of, line-effect, Has-rule}
 use Rattle.machine.specs.Views.{Serves}
 use Rattle.machine.specs.Standing.{standing-at, Here}
 
@@ -69,15 +69,15 @@ module _ (f : Bool) (activation : List ℕ) (r : Registers) (bytes : List ℕ) w
 
 -- A RULE AT EACH LINE
 
-carried-ruled : (p : Program) (u : UnitId) (l : ℕ) (m : Memory) (d : Config) (x : Option Done) → carried p u l m x ≡ Some d → Ruled x
+carried-ruled : (p : Program) (u : UnitId) (l : ℕ) (m : Memory) (d : Config) (x : Option Done) → carried p u l m x ≡ Some d → Has-rule x
 carried-ruled p u l m d None e = clash ⊥ d (sym e)
 carried-ruled p u l m d (Some n) e = tt
 
-step-ruled : (p : Program) (u : UnitId) (l : ℕ) (r : Registers) (m : Memory) (d : Config) → Step p (standing-at u l r m) d → Ruled (line-effect (flag-at p l) (p .activation) (decode (line-at p l)) r (m .bytes))
+step-ruled : (p : Program) (u : UnitId) (l : ℕ) (r : Registers) (m : Memory) (d : Config) → Step p (standing-at u l r m) d → Has-rule (line-effect (flag-at p l) (p .activation) (decode (line-at p l)) r (m .bytes))
 step-ruled p u l r m d (step {u = v} {l = k} q o e) =
     let same : k ≡ l = cc q in
-    subst (λ (n : ℕ). Ruled (line-effect (flag-at p n) (p .activation) (decode (line-at p n)) r (m .bytes))) same
-    (subst Ruled (effected-is p k r m (op-at p k)) (carried-ruled p v k m d (effected p k r m (op-at p k)) e))
+    subst (λ (n : ℕ). Has-rule (line-effect (flag-at p n) (p .activation) (decode (line-at p n)) r (m .bytes))) same
+    (subst Has-rule (effected-is p k r m (op-at p k)) (carried-ruled p v k m d (effected p k r m (op-at p k)) e))
 
 not-over : {u : UnitId} {l : ℕ} {b : Bool} → at u l ≡ over b → ⊥
 not-over q = let z : _≡_ {A = ℕ} 0 1 = cc q in omega arith
@@ -98,7 +98,7 @@ module _ (p : Program) (acc : Accepted p) (t : ℕ) (small : t < 7) (m₀ : Memo
       let w = s .routed .2 in
       record { real = w .real; own = w .own; points = s .fitting .points-fit; rule = go (goes-on p (acc .shaped) (ord p acc) t n (standing-at u l r m) (balanced p acc) s) }
     where
-      go : ((b : Bool) × (at u l ≡ over b)) ⊎ ((d : Config) × Step p (standing-at u l r m) d) → Ruled (line-effect (flag-at p l) (p .activation) (decode (line-at p l)) r (m .bytes))
+      go : ((b : Bool) × (at u l ≡ over b)) ⊎ ((d : Config) × Step p (standing-at u l r m) d) → Has-rule (line-effect (flag-at p l) (p .activation) (decode (line-at p l)) r (m .bytes))
       go (inl (b, q)) = absurd (not-over q)
       go (inr (d, s)) = step-ruled p u l r m d s
 

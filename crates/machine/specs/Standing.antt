@@ -7,7 +7,7 @@ use Rattle.rules.specs.Op.{decode}
 use Rattle.rules.specs.Program.{Program, line-at, flag-at, Own, Real}
 use Rattle.rules.specs.Effect.{Registers}
 use Rattle.rules.specs.Run.{Memory, at, Config}
-use Rattle.lines.specs.Views.{line-effect, Ruled}
+use Rattle.lines.specs.Views.{line-effect, Has-rule}
 
 -- a pass that stands at line l of unit u
 abbrev pub standing-at : UnitId → ℕ → Registers → Memory → Config
@@ -18,4 +18,4 @@ pub record Here (p : Program) (u : UnitId) (l : ℕ) (r : Registers) (m : Memory
   pub real : Real p u
   pub own : Own p u l
   pub points : length (m .points) ≡ length (p .activation)
-  pub rule : Ruled (line-effect (flag-at p l) (p .activation) (decode (line-at p l)) r (m .bytes))
+  pub rule : Has-rule (line-effect (flag-at p l) (p .activation) (decode (line-at p l)) r (m .bytes))

@@ -5,7 +5,7 @@ ghost use Prim.Native.Nat.{_<_, _≤_};
 ghost use lib.ListN.{length};
 ghost use Rattle.rules.specs.Op.{decode};
 ghost use Rattle.lines.specs.Widths.{Width};
-ghost use Rattle.lines.specs.Views.{registers-of, line-effect, Ruled};
+ghost use Rattle.lines.specs.Views.{registers-of, line-effect, Has-rule};
 use lines::registers::Registers;
 use rules::line::Line;
 
@@ -23,7 +23,7 @@ pub fn has_rule(
     registers: &Registers,
     bytes: &[u8],
 ) -> bool
-    ensures rule { λ r. ⌜ (r ≡ true → Ruled (line-effect flagged (now (activation .entry)) (decode line) (registers-of (now (registers .entry))) (now (bytes .entry)))) ⌝ }
+    ensures rule { λ r. ⌜ (r ≡ true → Has-rule (line-effect flagged (now (activation .entry)) (decode line) (registers-of (now (registers .entry))) (now (bytes .entry)))) ⌝ }
     ensures mechanism { λ r. ⌜ (r ≡ true → 22 ≤ line .code → line .operand < length (now (activation .entry))) ⌝ }
 {
     let Line {
