@@ -19,8 +19,10 @@ module _ (w : Width) (k : ℕ) (whole : modulus k ≡ 2 ^ bits w) (halves : modu
     where
       low : n < 2 ^ hbits w → signed k n ≡ toZ w n
       low l = cond-true (ltb (2 * n) (modulus k)) (pos n) (pos n -ℤ pos (modulus k)) (lt-ltb (2 * n) (modulus k) (omega arith)) ∙ sym (cond-true (ltb n (2 ^ hbits w)) (pos n) (negsuc (2 ^ bits w - suc n)) (lt-ltb n (2 ^ hbits w) l))
+
       minus : pos n -ℤ pos (modulus k) ≡ negsuc (2 ^ bits w - suc n)
       minus = omega (arith, ints)
+
       high : 2 ^ hbits w ≤ n → signed k n ≡ toZ w n
       high l = cond-false (ltb (2 * n) (modulus k)) (pos n) (pos n -ℤ pos (modulus k)) (le-ltb (2 * n) (modulus k) (omega arith)) ∙ minus ∙ sym (cond-false (ltb n (2 ^ hbits w)) (pos n) (negsuc (2 ^ bits w - suc n)) (le-ltb n (2 ^ hbits w) l))
 

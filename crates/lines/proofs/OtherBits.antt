@@ -1,14 +1,13 @@
 -- A write changes the bit at its address, and no other. Assumes nothing.
-use mathlib.Core.Path.{_≡_, refl, sym, ap, ap₂, _∙_, subst}
-use mathlib.Core.Logic.{_≢_, _⊎_, inl, inr, ⊎-elim}
-use mathlib.Core.Bool.{Bool, true, false, cond}
-use mathlib.Core.List.{List}
-use Prim.Native.Nat.{ℕ, zero, suc, _+_, _-_, _*_, _/_, _%_, _^_, _≤_, _<_}
+use mathlib.Core.Path.{_≡_, refl, sym, ap, _∙_}
+use mathlib.Core.Logic.{_≢_, ⊎-elim}
+use mathlib.Core.Bool.{Bool, true, false}
+use Prim.Native.Nat.{ℕ, _+_, _-_, _*_, _/_, _%_, _^_, _<_}
 use native.Mathlib.Omega.{arith}
-use native.Mathlib.Nat.{mul-add-mod-self-right, mul-assoc, add-assoc}
+use native.Mathlib.Nat.{mul-add-mod-self-right, mul-assoc}
 use lib.Dec.{eqb}
-use lib.ListN.{length, getD, set}
-use Rattle.std.proofs.shelf.Bits.{pow-pos, pow-add, shr-shr, shr-high, mod-below, div-below, field-of, div-add-mod', mod-mul-add}
+use lib.ListN.{getD}
+use Rattle.std.proofs.shelf.Bits.{pow-pos, pow-add, shr-shr, shr-high, mod-below, field-of, mod-mul-add}
 use Rattle.std.proofs.shelf.Lists.{getD-set-same, getD-set-other}
 use Rattle.std.proofs.shelf.Tests.{cases-eq, cases-order}
 use Rattle.rules.specs.Number.{as-number, bit-of-byte, bit, with-bit}
@@ -26,6 +25,7 @@ module _ (q k r : ℕ) (rl : r < 2 ^ k) where
     where
       mul-two : q * (2 ^ k * 2) ≡ q * 2 * 2 ^ k
       mul-two = omega arith
+
       spread : (q * 2 + d) * 2 ^ k ≡ q * 2 * 2 ^ k + d * 2 ^ k
       spread = omega arith
 
@@ -40,7 +40,7 @@ module _ (q k r : ℕ) (rl : r < 2 ^ k) where
   below d j e h =
       let p : 2 ^ k ≡ 2 ^ e * 2 ^ (1 + j) = ap (λ (x : ℕ). 2 ^ x) h ∙ pow-add 2 e (1 + j) in
       let w : whole d ≡ (q * 2 + d) * 2 ^ e * 2 ^ (1 + j) + r =
-          regroup d ∙ ap (λ (x : ℕ). x + r) (ap (λ (x : ℕ). (q * 2 + d) * x) p ∙ sym (mul-assoc (q * 2 + d) (2 ^ e) (2 ^ (1 + j)))) in
+      regroup d ∙ ap (λ (x : ℕ). x + r) (ap (λ (x : ℕ). (q * 2 + d) * x) p ∙ sym (mul-assoc (q * 2 + d) (2 ^ e) (2 ^ (1 + j)))) in
       let s : whole d % 2 ^ (1 + j) ≡ r % 2 ^ (1 + j) = ap (λ (x : ℕ). x % 2 ^ (1 + j)) w ∙ mul-add-mod-self-right ((q * 2 + d) * 2 ^ e) (2 ^ (1 + j)) r in
       sym (field-of (whole d) 1 j) ∙ ap (λ (x : ℕ). x / 2 ^ j) s ∙ field-of r 1 j
 
@@ -49,6 +49,7 @@ module _ (q k r : ℕ) (rl : r < 2 ^ k) where
     where
       lower : j < k → whole d / 2 ^ j % 2 ≡ whole d′ / 2 ^ j % 2
       lower h = let e : k ≡ k - (1 + j) + (1 + j) = omega arith in below d j (k - (1 + j)) e ∙ sym (below d′ j (k - (1 + j)) e)
+
       higher : k < j → whole d / 2 ^ j % 2 ≡ whole d′ / 2 ^ j % 2
       higher h =
           let e : j ≡ k + 1 + (j - (k + 1)) = omega arith in
@@ -86,8 +87,10 @@ only-that-bit bytes a v h = (same, other)
   where
     here : getD (with-bit bytes a v) (a / 8) 0 ≡ changed (getD bytes (a / 8) 0) (a % 8) v
     here = getD-set-same bytes (a / 8) (changed (getD bytes (a / 8) 0) (a % 8) v) 0 (omega arith)
+
     same : bit (with-bit bytes a v) a ≡ v
     same = ap (λ (x : ℕ). eqb (bit-of-byte x (a % 8)) 1) here ∙ byte-same (getD bytes (a / 8) 0) (a % 8) v
+
     near : (x : ℕ) → (x ≡ a → ⊥) → x / 8 ≡ a / 8 → bit (with-bit bytes a v) x ≡ bit bytes x
     near x ne e =
         let m : x % 8 ≢ a % 8 = λ k. ne (omega arith) in
@@ -95,5 +98,6 @@ only-that-bit bytes a v h = (same, other)
         ∙ ap (λ (y : ℕ). eqb (bit-of-byte y (x % 8)) 1) here
         ∙ byte-other (getD bytes (a / 8) 0) (a % 8) v (x % 8) m
         ∙ ap (λ (y : ℕ). eqb (bit-of-byte (getD bytes y 0) (x % 8)) 1) (sym e)
+
     other : (x : ℕ) → (x ≡ a → ⊥) → bit (with-bit bytes a v) x ≡ bit bytes x
     other x ne = ⊎-elim (near x ne) (λ far. ap (λ (y : ℕ). eqb (bit-of-byte y (x % 8)) 1) (getD-set-other bytes (a / 8) (x / 8) (changed (getD bytes (a / 8) 0) (a % 8) v) 0 far)) (cases-eq (x / 8) (a / 8))

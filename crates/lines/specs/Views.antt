@@ -36,7 +36,7 @@ turn-of (Resets k) = resets k
 abbrev pub done : Registers → List ℕ → Turn → Option Done
 done r bytes t = Some (keeping (registers-of r) bytes (turn-of t))
 
--- what an operation does that minds neither the text flag nor the activation bits
+-- what an operation does that depends on neither the text flag nor the activation bits
 abbrev pub alone : Op → rules.Registers → List ℕ → Option Done
 alone o r bytes = effect false [] o r bytes
 
@@ -50,6 +50,6 @@ line-effect f activation None r bytes = None
 line-effect f activation (Some o) r bytes = effect f activation o r bytes
 
 -- a rule exists
-abbrev pub Ruled : {A : Type 0} → Option A → Type 0
-Ruled None = ⊥
-Ruled (Some x) = Unit {0}
+abbrev pub Has-rule : {A : Type 0} → Option A → Type 0
+Has-rule None = ⊥
+Has-rule (Some x) = Unit {0}

@@ -8,5 +8,10 @@ use crate::registers::Registers;
 pub fn cleared_registers() -> Registers
     ensures { λ r. ⌜ registers-of r ≡ cleared ⌝ }
 {
-    Registers { rlo: false, dr: 0, cells: [false; 8], depth: 0 }
+    Registers {
+        rlo: false,
+        dr: 0,
+        cells: [false; 8],
+        depth: 0,
+    }
 }

@@ -14,7 +14,12 @@ pub fn number_at(bytes: &[u8], place: usize, width: u8) -> u32
     match width {
         1 => u32::from(bytes[place]),
         2 => u32::from(u16::from_le_bytes([bytes[place], bytes[place + 1]])),
-        _ => u32::from_le_bytes([bytes[place], bytes[place + 1], bytes[place + 2], bytes[place + 3]]),
+        _ => u32::from_le_bytes([
+            bytes[place],
+            bytes[place + 1],
+            bytes[place + 2],
+            bytes[place + 3],
+        ]),
     }
 }
 

@@ -3,7 +3,7 @@ use mathlib.Core.Path.{_≡_, refl, sym, ap, subst, _∙_}
 use mathlib.Core.Bool.{Bool, true, false, cond}
 use mathlib.Core.List.{List}
 use mathlib.Core.Logic.{_⊎_, inl, inr}
-use Prim.Native.Nat.{ℕ, suc, _+_, _<_, _≤_}
+use Prim.Native.Nat.{ℕ, _+_, _<_, _≤_}
 use native.Mathlib.Omega.{arith}
 use lib.Dec.{eqb, lit<}
 use lib.ListN.{length, getD}
@@ -13,15 +13,15 @@ use Rattle.std.proofs.shelf.Tests.{eqb-true}
 use Rattle.rules.specs.declared.line.Line.{Line}
 use Rattle.rules.specs.declared.unit.UnitId.{UnitId}
 use Rattle.rules.specs.declared.unit.UnitId.the-variants.{Module}
-use Rattle.rules.specs.Op.{code-of, name-of, Op, Logic, and, or, xor, ldr, logic, logic-cell, ca, wr, fl, fl1, jl, ex, ex-if, lod, sto, ad, ge, abs, mech-begin, mech-end, mech-init, decode, is-begin}
+use Rattle.rules.specs.Op.{Op, and, or, xor, ldr, logic, logic-cell, ca, wr, fl, fl1, jl, ex, ex-if, lod, sto, ad, ge, abs, mech-begin, mech-end, mech-init, decode, is-begin}
 use Rattle.rules.specs.Number.{bit}
-use Rattle.rules.specs.Program.{Program, line-at, op-at, flag-at, after, Own, Real}
+use Rattle.rules.specs.Program.{Program, line-at, op-at, flag-at, after, Own}
 use Rattle.rules.specs.Form.{Reaches}
 use Rattle.rules.specs.Verdict.{Accepted}
-use Rattle.rules.specs.Effect.{Registers, Turn, enters, skips, follows, goes, stops, waits, resumes, resets, Done, bit-in, provided, keeping, effect}
-use Rattle.rules.specs.Run.{Memory, with-bytes, Place, at, over, Config, enter, turned, effected, carried, Step, step, Runs}
+use Rattle.rules.specs.Effect.{Registers, Turn, enters, skips, follows, goes, stops, waits, resumes, resets, Done, bit-in, keeping, effect}
+use Rattle.rules.specs.Run.{Memory, with-bytes, at, over, Config, enter, turned, effected, carried, Step, step, Runs}
 use Rattle.theory.specs.Decoded.{Says}
-use Rattle.theory.specs.Standing.{Fitting, Routed, On-route}
+use Rattle.theory.specs.Standing.{Fitting}
 use Rattle.theory.proofs.Decode.{decode-says}
 use Rattle.theory.proofs.Text.{named}
 use Rattle.theory.proofs.Orderly.{Orderly, orderly, clash}
@@ -32,7 +32,7 @@ use Rattle.theory.proofs.Ruled.{formed, balanced}
 use Rattle.theory.proofs.Ends.{bound}
 use Rattle.lines.specs.declared.turn.Turn as machine
 use Rattle.lines.specs.declared.turn.Turn.the-variants.{Follows, Goes, Stops, Waits, Resumes, Enters, Skips, Resets}
-use Rattle.lines.specs.Views.{turn-of, line-effect, Ruled}
+use Rattle.lines.specs.Views.{turn-of, line-effect, Has-rule}
 use Rattle.machine.specs.Views.{Serves}
 use Rattle.machine.specs.Standing.{standing-at, Here}
 
@@ -69,15 +69,15 @@ module _ (f : Bool) (activation : List ℕ) (r : Registers) (bytes : List ℕ) w
 
 -- A RULE AT EACH LINE
 
-carried-ruled : (p : Program) (u : UnitId) (l : ℕ) (m : Memory) (d : Config) (x : Option Done) → carried p u l m x ≡ Some d → Ruled x
+carried-ruled : (p : Program) (u : UnitId) (l : ℕ) (m : Memory) (d : Config) (x : Option Done) → carried p u l m x ≡ Some d → Has-rule x
 carried-ruled p u l m d None e = clash ⊥ d (sym e)
 carried-ruled p u l m d (Some n) e = tt
 
-step-ruled : (p : Program) (u : UnitId) (l : ℕ) (r : Registers) (m : Memory) (d : Config) → Step p (standing-at u l r m) d → Ruled (line-effect (flag-at p l) (p .activation) (decode (line-at p l)) r (m .bytes))
+step-ruled : (p : Program) (u : UnitId) (l : ℕ) (r : Registers) (m : Memory) (d : Config) → Step p (standing-at u l r m) d → Has-rule (line-effect (flag-at p l) (p .activation) (decode (line-at p l)) r (m .bytes))
 step-ruled p u l r m d (step {u = v} {l = k} q o e) =
     let same : k ≡ l = cc q in
-    subst (λ (n : ℕ). Ruled (line-effect (flag-at p n) (p .activation) (decode (line-at p n)) r (m .bytes))) same
-    (subst Ruled (effected-is p k r m (op-at p k)) (carried-ruled p v k m d (effected p k r m (op-at p k)) e))
+    subst (λ (n : ℕ). Has-rule (line-effect (flag-at p n) (p .activation) (decode (line-at p n)) r (m .bytes))) same
+    (subst Has-rule (effected-is p k r m (op-at p k)) (carried-ruled p v k m d (effected p k r m (op-at p k)) e))
 
 not-over : {u : UnitId} {l : ℕ} {b : Bool} → at u l ≡ over b → ⊥
 not-over q = let z : _≡_ {A = ℕ} 0 1 = cc q in omega arith
@@ -98,7 +98,7 @@ module _ (p : Program) (acc : Accepted p) (t : ℕ) (small : t < 7) (m₀ : Memo
       let w = s .routed .2 in
       record { real = w .real; own = w .own; points = s .fitting .points-fit; rule = go (goes-on p (acc .shaped) (ord p acc) t n (standing-at u l r m) (balanced p acc) s) }
     where
-      go : ((b : Bool) × (at u l ≡ over b)) ⊎ ((d : Config) × Step p (standing-at u l r m) d) → Ruled (line-effect (flag-at p l) (p .activation) (decode (line-at p l)) r (m .bytes))
+      go : ((b : Bool) × (at u l ≡ over b)) ⊎ ((d : Config) × Step p (standing-at u l r m) d) → Has-rule (line-effect (flag-at p l) (p .activation) (decode (line-at p l)) r (m .bytes))
       go (inl (b, q)) = absurd (not-over q)
       go (inr (d, s)) = step-ruled p u l r m d s
 
@@ -117,8 +117,10 @@ module _ (p : Program) (acc : Accepted p) where
     where
       low : {P : Type 0} (n : ℕ) → line-at p l .code ≡ n → n < 22 → P
       low n e b = absurd (omega arith)
+
       inside : (k : ℕ) → line-at p l .operand ≡ k → k < length (p .activation) → line-at p l .operand < length (p .activation)
       inside k e b = omega arith
+
       go : (o : Op) → Says (line-at p l) o → Reaches p (line-at p l) (Some o) → line-at p l .operand < length (p .activation)
       go (ldr s a) w b = low 1 (w .code-is) (lit< tt)
       go (logic and s a) w b = low 2 (w .code-is) (lit< tt)
@@ -152,14 +154,18 @@ module _ (p : Program) (acc : Accepted p) where
       next : (b : Bool) → is-begin (line-at p l) ≡ b → (b ≡ true → ⊥) → after p l ≡ l + 1
       next true e n = absurd (n refl)
       next false e n = after-plain p (acc .shaped) (ord p acc) l e
+
       begun : (w : machine.Turn) → line-effect (flag-at p l) (p .activation) (decode (line-at p l)) r bytes ≡ Some (keeping r′ bytes′ (turn-of w)) → is-begin (line-at p l) ≡ true → Inward (turn-of w)
       begun w e b = begin-inward (flag-at p l) (p .activation) r bytes (line-at p l) (keeping r′ bytes′ (turn-of w)) b e
+
       led : (w : machine.Turn) → line-effect (flag-at p l) (p .activation) (decode (line-at p l)) r bytes ≡ Some (keeping r′ bytes′ (turn-of w)) → (o : Op) × Reaches p (line-at p l) (Some o) × Turns o (turn-of w)
       led w e =
           let q = operation l h in
           (q .0, q .3, did (flag-at p l) (p .activation) (q .0) r bytes (keeping r′ bytes′ (turn-of w)) (subst (λ (o : Option Op). line-effect (flag-at p l) (p .activation) o r bytes ≡ Some (keeping r′ bytes′ (turn-of w))) (q .1) e) .turns)
+
       named-by : (o q : Op) → o ≡ q → Reaches p (line-at p l) (Some o) → Reaches p (line-at p l) (Some q)
       named-by o q e b = subst (λ (x : Op). Reaches p (line-at p l) (Some x)) e b
+
       go : (w : machine.Turn) → (is-begin (line-at p l) ≡ true → Inward (turn-of w)) → (o : Op) × Reaches p (line-at p l) (Some o) × Turns o (turn-of w) → Serves p l w
       go Follows b q = next (is-begin (line-at p l)) refl b
       go (Goes t) b q = tt

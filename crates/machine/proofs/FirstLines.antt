@@ -1,12 +1,11 @@
 -- The points at first lines, one after another. Assumes nothing.
-use mathlib.Core.Path.{_≡_, refl, sym, ap, _∙_}
+use mathlib.Core.Path.{_≡_, sym, ap, _∙_}
 use mathlib.Core.List.{List, [], _∷_, _++_}
 use Prim.Native.Nat.{ℕ, _+_, _<_, _≤_}
-use lib.ListN.{length, drop, getD}
+use lib.ListN.{length, drop}
 use Rattle.std.proofs.shelf.Lists.{append-nil, append-assoc, drop-all, drop-more}
 use Rattle.rules.specs.declared.unit.UnitId.the-variants.{Module, Mechanism}
 use Rattle.rules.specs.Program.{Program, first, block-init, block-done}
-use Rattle.rules.specs.Run.{Memory}
 use Rattle.rules.specs.Session.{first-lines, fresh}
 
 module _ (p : Program) (activation : List ℕ) where

@@ -1,5 +1,5 @@
 -- An accepted program is accepted by the rules. Assumes nothing.
-use mathlib.Core.Path.{_≡_, subst, _∙_}
+use mathlib.Core.Path.{subst, _∙_}
 use Prim.Native.Nat.{ℕ}
 use Rattle.std.specs.Of.Vec.{vec-items}
 use Rattle.rules.specs.Image.{Section, data-section, mechanism-section, module-section, line-section}

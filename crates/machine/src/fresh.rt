@@ -5,6 +5,8 @@ ghost use Rattle.std.specs.Vec.{made};
 ghost use Rattle.rules.specs.Session.{first-lines, fresh};
 ghost use Rattle.machine.specs.Views.{program-of, memory-of};
 use crate::memory::Memory;
+use crate::units::BLOCK_DONE;
+use crate::units::BLOCK_INIT;
 use crate::units::mechanism_first;
 use std::alloc::AllocError;
 use std::alloc::Global;
@@ -29,5 +31,10 @@ pub fn fresh(program: &Accepted, heap: Global) -> Result<Memory, AllocError>
     let mut bytes = Vec::new(heap);
     bytes.extend_from_slice(formed.program.initial.as_slice())?;
     let points = first_points(program, heap)?;
-    Ok(Memory { bytes, init_point: formed.starts[1], done_point: formed.starts[2], points })
+    Ok(Memory {
+        bytes,
+        init_point: formed.starts[BLOCK_INIT],
+        done_point: formed.starts[BLOCK_DONE],
+        points,
+    })
 }

@@ -8,38 +8,60 @@ ghost use Rattle.lines.specs.Views.{registers-of, turn-of};
 ghost use Rattle.machine.specs.Views.{program-of, memory-of, config-of, Serves};
 use crate::memory::Memory;
 use crate::place::Place;
-use crate::point::{point_of, set_point};
-use crate::units::{mechanism_end, mechanism_first};
-use lines::registers::Registers;
+use crate::point::point_of;
+use crate::point::set_point;
+use crate::units::MAIN;
+use crate::units::mechanism_end;
+use crate::units::mechanism_first;
 use lines::cleared::cleared_registers;
+use lines::registers::Registers;
 use lines::turn::Turn;
 use rules::unit::UnitId;
 use verdict::accepted::Accepted;
 
 // Control comes to a line of a module; its end ends the pass, and gives the module's point back.
-fn arrive_module(program: &Accepted, module: usize, line: usize, registers: &mut Registers, memory: &mut Memory) -> Place
+fn arrive_module(
+    program: &Accepted,
+    module: usize,
+    line: usize,
+    registers: &mut Registers,
+    memory: &mut Memory,
+) -> Place
     requires { ⌜ «module» < 7 ⌝ }
     ensures { λ r. ⌜ config-of r (now (registers .exit)) (now (memory .exit)) ≡ arrive-module (program-of (now (program .entry))) «module» line (registers-of (now (registers .entry))) (memory-of (now (memory .entry))) ⌝ }
 {
     if line != program.formed.starts[module + 1] {
         return Place::At(UnitId::Module(module), line);
     }
-    set_point(memory, UnitId::Module(module), program.formed.starts[module]);
+    let first = program.formed.starts[module];
+    set_point(memory, UnitId::Module(module), first);
     *registers = cleared_registers();
     Place::Over(true)
 }
 
 // MAIN goes on after a mechanism's MECH_END, with RLO and DR 0.
-fn main_after(program: &Accepted, mechanism: usize, registers: &mut Registers, memory: &mut Memory) -> Place
+fn main_after(
+    program: &Accepted,
+    mechanism: usize,
+    registers: &mut Registers,
+    memory: &mut Memory,
+) -> Place
     requires { ⌜ mechanism < vec-len (now program .formed .program .activation) ⌝ }
     ensures { λ r. ⌜ config-of r (now (registers .exit)) (now (memory .exit)) ≡ main-after (program-of (now (program .entry))) mechanism (memory-of (now (memory .entry))) ⌝ }
 {
     *registers = cleared_registers();
-    arrive_module(program, 3, mechanism_end(program, mechanism), registers, memory)
+    let line = mechanism_end(program, mechanism);
+    arrive_module(program, MAIN, line, registers, memory)
 }
 
 /// Control comes to a line of a unit; a mechanism's end gives its point back and leads to MAIN.
-pub fn arrive_at(program: &Accepted, unit: UnitId, line: usize, registers: &mut Registers, memory: &mut Memory) -> Place
+pub fn arrive_at(
+    program: &Accepted,
+    unit: UnitId,
+    line: usize,
+    registers: &mut Registers,
+    memory: &mut Memory,
+) -> Place
     requires unit { ⌜ Real (program-of (now program)) unit ⌝ }
     requires points { ⌜ vec-len (now memory .points) ≡ vec-len (now program .formed .program .activation) ⌝ }
     ensures { λ r. ⌜ config-of r (now (registers .exit)) (now (memory .exit)) ≡ arrive (program-of (now (program .entry))) unit line (registers-of (now (registers .entry))) (memory-of (now (memory .entry))) ⌝ }
@@ -57,7 +79,12 @@ pub fn arrive_at(program: &Accepted, unit: UnitId, line: usize, registers: &mut 
 }
 
 /// The pass of a unit ends before the unit's end.
-pub fn leave_unit(program: &Accepted, unit: UnitId, registers: &mut Registers, memory: &mut Memory) -> Place
+pub fn leave_unit(
+    program: &Accepted,
+    unit: UnitId,
+    registers: &mut Registers,
+    memory: &mut Memory,
+) -> Place
     requires { ⌜ Real (program-of (now program)) unit ⌝ }
     ensures { λ r. ⌜ config-of r (now (registers .exit)) (now (memory .exit)) ≡ leave (program-of (now (program .entry))) unit (memory-of (now (memory .entry))) ⌝ }
 {
@@ -71,7 +98,12 @@ pub fn leave_unit(program: &Accepted, unit: UnitId, registers: &mut Registers, m
 }
 
 /// A unit is entered at its point, with RLO and DR 0 and the stack empty.
-pub fn enter_unit(program: &Accepted, unit: UnitId, registers: &mut Registers, memory: &mut Memory) -> Place
+pub fn enter_unit(
+    program: &Accepted,
+    unit: UnitId,
+    registers: &mut Registers,
+    memory: &mut Memory,
+) -> Place
     requires unit { ⌜ Real (program-of (now program)) unit ⌝ }
     requires points { ⌜ vec-len (now memory .points) ≡ vec-len (now program .formed .program .activation) ⌝ }
     ensures { λ r. ⌜ config-of r (now (registers .exit)) (now (memory .exit)) ≡ enter (program-of (now (program .entry))) unit (memory-of (now (memory .entry))) ⌝ }
@@ -82,7 +114,14 @@ pub fn enter_unit(program: &Accepted, unit: UnitId, registers: &mut Registers, m
 }
 
 /// Control goes on after a line of a unit by the line's turn.
-pub fn take_turn(program: &Accepted, unit: UnitId, line: usize, turn: Turn, registers: &mut Registers, memory: &mut Memory) -> Place
+pub fn take_turn(
+    program: &Accepted,
+    unit: UnitId,
+    line: usize,
+    turn: Turn,
+    registers: &mut Registers,
+    memory: &mut Memory,
+) -> Place
     requires unit { ⌜ Real (program-of (now program)) unit ⌝ }
     requires points { ⌜ vec-len (now memory .points) ≡ vec-len (now program .formed .program .activation) ⌝ }
     requires line { ⌜ line < vec-len (now program .formed .program .lines) ⌝ }
@@ -101,7 +140,10 @@ pub fn take_turn(program: &Accepted, unit: UnitId, line: usize, turn: Turn, regi
             set_point(memory, unit, line + 1);
             arrive_at(program, unit, line + 1, registers, memory)
         }
-        Turn::Enters(mechanism) => enter_unit(program, UnitId::Mechanism(mechanism as usize), registers, memory),
+        Turn::Enters(mechanism) => {
+            let entered = UnitId::Mechanism(mechanism as usize);
+            enter_unit(program, entered, registers, memory)
+        }
         Turn::Skips(mechanism) => main_after(program, mechanism as usize, registers, memory),
         Turn::Resets(mechanism) => {
             let first = mechanism_first(program, mechanism as usize);

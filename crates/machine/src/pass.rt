@@ -11,10 +11,11 @@ ghost use Rattle.theory.specs.Standing.{Fitting};
 ghost use Rattle.machine.specs.Views.{program-of, memory-of, config-of};
 ghost use Rattle.machine.specs.Standing.{standing-at, Here};
 use crate::memory::Memory;
-use crate::moves::{enter_unit, take_turn};
+use crate::moves::enter_unit;
+use crate::moves::take_turn;
 use crate::place::Place;
-use lines::registers::Registers;
 use lines::cleared::cleared_registers;
+use lines::registers::Registers;
 use lines::step::step;
 use rules::unit::UnitId;
 use verdict::accepted::Accepted;
@@ -27,13 +28,25 @@ pub struct Passed {
 }
 
 // Executes the line where a pass stands, which is one step of the rules.
-fn execute(program: &Accepted, unit: UnitId, line: usize, registers: &mut Registers, memory: &mut Memory) -> Place
+fn execute(
+    program: &Accepted,
+    unit: UnitId,
+    line: usize,
+    registers: &mut Registers,
+    memory: &mut Memory,
+) -> Place
     requires { ⌜ Here (program-of (now program)) unit line (registers-of (now registers)) (memory-of (now memory)) ⌝ }
     ensures { λ r. ⌜ Step (program-of (now (program .entry))) (standing-at unit line (registers-of (now (registers .entry))) (memory-of (now (memory .entry)))) (config-of r (now (registers .exit)) (now (memory .exit))) ⌝ }
 {
     let formed = &program.formed;
     let text = &formed.program;
-    let turn = step(text.lines[line], formed.flags[line], text.activation.as_slice(), registers, memory.bytes.as_mut_slice());
+    let turn = step(
+        text.lines[line],
+        formed.flags[line],
+        text.activation.as_slice(),
+        registers,
+        memory.bytes.as_mut_slice(),
+    );
     take_turn(program, unit, line, turn, registers, memory)
 }
 

@@ -5,6 +5,8 @@ ghost use Rattle.rules.specs.Program.{Real};
 ghost use Rattle.rules.specs.Run.{point, with-point};
 ghost use Rattle.machine.specs.Views.{program-of, memory-of, Has-point};
 use crate::memory::Memory;
+use crate::units::BLOCK_DONE;
+use crate::units::BLOCK_INIT;
 use rules::unit::UnitId;
 use verdict::accepted::Accepted;
 
@@ -15,8 +17,8 @@ pub fn point_of(program: &Accepted, memory: &Memory, unit: UnitId) -> usize
     ensures { λ r. ⌜ r ≡ point (program-of (now (program .entry))) (memory-of (now (memory .entry))) unit ⌝ }
 {
     match unit {
-        UnitId::Module(1) => memory.init_point,
-        UnitId::Module(2) => memory.done_point,
+        UnitId::Module(BLOCK_INIT) => memory.init_point,
+        UnitId::Module(BLOCK_DONE) => memory.done_point,
         UnitId::Module(n) => program.formed.starts[n],
         UnitId::Mechanism(k) => memory.points[k],
     }
@@ -28,8 +30,8 @@ pub fn set_point(memory: &mut Memory, unit: UnitId, line: usize)
     ensures { λ _. ⌜ memory-of (now (memory .exit)) ≡ with-point (memory-of (now (memory .entry))) unit line ⌝ }
 {
     match unit {
-        UnitId::Module(1) => memory.init_point = line,
-        UnitId::Module(2) => memory.done_point = line,
+        UnitId::Module(BLOCK_INIT) => memory.init_point = line,
+        UnitId::Module(BLOCK_DONE) => memory.done_point = line,
         UnitId::Module(_) => {}
         UnitId::Mechanism(k) => memory.points[k] = line,
     }

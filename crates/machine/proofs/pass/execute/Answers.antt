@@ -11,7 +11,7 @@ use Rattle.rules.specs.declared.line.Line.{Line}
 use Rattle.rules.specs.Program.{line-at}
 use Rattle.rules.specs.Effect.{Done}
 use Rattle.rules.specs.Run.{Config, Step, with-bytes, turned}
-use Rattle.lines.specs.Views.{registers-of, turn-of, Ruled}
+use Rattle.lines.specs.Views.{registers-of, turn-of, Has-rule}
 use Rattle.machine.specs.Views.{program-of, memory-of}
 use Rattle.machine.specs.Standing.{standing-at}
 use Rattle.machine.proofs.Soundness.{accepted}
@@ -26,9 +26,9 @@ step-turn-requires c κs =
     let w = c .pre .own .within in
     let same = effect-read (a .formed) l w (registers-of (c .args .registers .now)) (vec-items (c .args .memory .now .bytes)) (c .as-mut-slice .result .now) (c .index-2 .result .now) (c .index .result .now) (c .as-slice .result .now) (c .index-2 .ensures) (c .index .ensures) (c .as-slice .ensures .value) (c .as-mut-slice .ensures .value) in
     record {
-      rule = subst (λ (x : Option Done). Ruled x) (sym same) (c .pre .rule);
+      rule = subst (λ (x : Option Done). Has-rule x) (sym same) (c .pre .rule);
       mechanism = subst (λ (x : Line). 22 ≤ x .code → x .operand < length (c .as-slice .result .now)) (sym (line-read (a .formed) l w (c .index .result .now) (c .index .ensures)))
-        (subst (λ (xs : List ℕ). 22 ≤ line-at (program-of a) l .code → line-at (program-of a) l .operand < length xs) (sym (c .as-slice .ensures .value)) (mechanism-inside (program-of a) (accepted a) l w));
+          (subst (λ (xs : List ℕ). 22 ≤ line-at (program-of a) l .code → line-at (program-of a) l .operand < length xs) (sym (c .as-slice .ensures .value)) (mechanism-inside (program-of a) (accepted a) l w));
     }
 
 pub take-turn-requires : need.take-turn-requires

@@ -1,0 +1,3 @@
+// Every line at every mode, tried on known data.
+pub mod ruled;
+pub mod tried;
