@@ -1,5 +1,4 @@
 pub mod Places
-pub mod Soundness
 pub mod Executions
 pub mod Lookups
 pub mod Passing

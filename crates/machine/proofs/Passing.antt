@@ -19,7 +19,7 @@ use Rattle.machine.specs.declared.place.Place.{Place}
 use Rattle.machine.specs.declared.place.Place.the-variants.{At, Over}
 use Rattle.machine.specs.Views.{program-of, memory-of, place-of, config-of}
 use Rattle.machine.specs.Standing.{standing-at, Here}
-use Rattle.machine.proofs.Soundness.{accepted}
+use Rattle.verdict.proofs.Kept.{accepted}
 use Rattle.machine.proofs.Executions.{stands, steps-bounded, here-at}
 
 -- one line more

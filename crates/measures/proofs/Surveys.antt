@@ -11,7 +11,8 @@ use Rattle.walk.specs.declared.unit_text.UnitText.{UnitText}
 use Rattle.walk.specs.Joins.{JoinOf}
 use Rattle.walk.specs.Walked.{Brought, Whole, Walked}
 use Rattle.walk.specs.UnitTexts.{program-of}
-use Rattle.walk.proofs.Givens.{formed-by-rules, lines-few, unit-real, unit-sound}
+use Rattle.text.proofs.Shape.{formed-by-rules}
+use Rattle.walk.proofs.Givens.{lines-few, unit-real, unit-sound}
 use Rattle.measures.specs.Models.{steps-after, depths-after, wider, paired, beside}
 use Rattle.measures.specs.Meaning.{Comes, Bounds-hold, Depth-range, Surveyed}
 use Rattle.measures.proofs.Longest.{comes-in, takes-at-most}

@@ -18,7 +18,7 @@ use Rattle.rules.specs.Run as rules
 use Rattle.rules.specs.Run.{point}
 use Rattle.theory.specs.Standing.{Fitting}
 use Rattle.theory.proofs.Orderly.{sure, owned}
-use Rattle.machine.proofs.Soundness.{accepted}
+use Rattle.verdict.proofs.Kept.{accepted}
 use Rattle.verdict.specs.declared.accepted.Accepted.{Accepted}
 use Rattle.machine.specs.Views.{program-of, memory-of}
 use Rattle.machine.specs.declared.memory.Memory.{Memory}

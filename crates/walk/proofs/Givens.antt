@@ -11,13 +11,11 @@ use Rattle.std.specs.declared.option.Option.{Option}
 use Rattle.std.specs.declared.option.Option.the-variants.{None}
 use Rattle.rules.specs.declared.unit.UnitId.{UnitId}
 use Rattle.rules.specs.declared.unit.UnitId.the-variants.{Module, Mechanism}
-use Rattle.rules.specs.Program.{Program, Real, main-module, first, end, begin-line, end-line}
-use Rattle.rules.specs.Image.{Section, data-section, mechanism-section, module-section, line-section}
-use Rattle.rules.specs.Form.{Shaped, In-range, Bits-inside, records}
-use Rattle.rules.specs.Verdict.{Formed}
+use Rattle.rules.specs.Program.{Program, Real, main-module, first, end, module-first, begin-line, end-line}
+use Rattle.rules.specs.Image.{line-section}
 use Rattle.image.specs.Held.{meant}
-use Rattle.image.specs.declared.program.Program as image
 use Rattle.text.specs.declared.formed.Formed as text
+use Rattle.text.proofs.Shape.{formed-by-rules}
 use Rattle.theory.proofs.Text.{end-within}
 use Rattle.theory.proofs.Orderly.{orderly}
 use Rattle.theory.proofs.Spans.{span}
@@ -25,25 +23,6 @@ use Rattle.walk.specs.Units.{Had}
 use Rattle.walk.specs.UnitTexts.{program-of}
 use Rattle.walk.specs.declared.unit_text.UnitText.{UnitText}
 use Rattle.walk.proofs.Sound.{Sound, sound}
-
-counted : (p : image.Program) (s : Section) → In-range s (records (meant p) s)
-counted p data-section = subst (In-range data-section) (p .initial .ok .0) (p .«data_count»)
-counted p mechanism-section = subst (In-range mechanism-section) (p .activation .ok .0) (p .«mechanism_count»)
-counted p module-section = subst (In-range module-section) (p .lengths .ok .0) (p .«module_count»)
-counted p line-section = subst (In-range line-section) (p .lines .ok .0) (p .«line_count»)
-
--- a program as read has its shape
-pub shaped-as-read : (p : image.Program) → Shaped (meant p)
-shaped-as-read p = record {
-  counts = counted p;
-  bytes-small = p .«bytes_small»;
-  activation-inside = subst (Bits-inside (vec-items (p .activation))) (p .initial .ok .0) (p .«bits_inside»);
-  all-lines = p .«all_lines» ∙ p .lines .ok .0;
-}
-
--- a formed program is formed by the rules
-pub formed-by-rules : (f : text.Formed) → Formed (meant (f .program))
-formed-by-rules f = record { shaped = shaped-as-read (f .program); unbroken = f .unbroken }
 
 -- a formed program's lines are few
 pub lines-few : (f : text.Formed) → length (meant (f .program) .lines) ≤ 2048
@@ -78,6 +57,12 @@ module _ (f : text.Formed) (k : ℕ) (within : k < vec-len (f .program .activati
 had-real : (p : Program) (u : UnitId) → Had p u → Real p u
 had-real p (Module m) h = h
 had-real p (Mechanism k) h = h
+
+-- the first line of a module, as the table has it
+pub start-read : (f : text.Formed) (m l : ℕ) → m < 8 → l ≡ getD (vec-items (f .starts)) m l → l ≡ module-first (meant (f .program)) m
+start-read f m l h r =
+    let room : m < length (vec-items (f .starts)) = omega (arith, f .starts .ok .0, f .«starts_count») in
+    getD-read _ _ _ room r 0 ∙ f .«starts_are» m h
 
 -- the unit of a unit's text is one that its program has
 pub unit-real : (u : UnitText) → Real (program-of u) (u .id)

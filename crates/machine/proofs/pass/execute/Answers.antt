@@ -14,7 +14,7 @@ use Rattle.rules.specs.Run.{Config, Step, with-bytes, turned}
 use Rattle.lines.specs.Views.{registers-of, turn-of, Has-rule}
 use Rattle.machine.specs.Views.{program-of, memory-of}
 use Rattle.machine.specs.Standing.{standing-at}
-use Rattle.machine.proofs.Soundness.{accepted}
+use Rattle.verdict.proofs.Kept.{accepted}
 use Rattle.machine.proofs.Lookups.{line-read, effect-read}
 use Rattle.machine.proofs.Executions.{mechanism-inside, served, stepped}
 use Rattle.machine.proofs.pass.execute.Needs as need

@@ -4,7 +4,7 @@ use lib.ListN.{length}
 use Rattle.rules.specs.Image.{line-section}
 use Rattle.rules.specs.Run.{Runs, here}
 use Rattle.machine.specs.Views.{program-of, memory-of, config-of}
-use Rattle.machine.proofs.Soundness.{shaped}
+use Rattle.text.proofs.Shape.{shaped}
 use Rattle.machine.proofs.Passing.{one-more, within-lines, at-line, passes, fitting-after, whole-after}
 use Rattle.machine.proofs.pass.pass.Needs as need
 

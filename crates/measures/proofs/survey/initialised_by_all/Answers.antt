@@ -6,7 +6,8 @@ use Rattle.std.specs.Of.Vec.{vec-items}
 use Rattle.rules.specs.Program.{end}
 use Rattle.rules.specs.Image.{mechanism-section}
 use Rattle.walk.specs.UnitTexts.{program-of}
-use Rattle.walk.proofs.Givens.{formed-by-rules, unit-sound, read-at-end}
+use Rattle.text.proofs.Shape.{formed-by-rules}
+use Rattle.walk.proofs.Givens.{unit-sound, read-at-end}
 use Rattle.walk.proofs.Totals.{some-end, entry-joins}
 use Rattle.measures.specs.Models.{set-of, set-after}
 use Rattle.measures.proofs.Sets.{by-all}

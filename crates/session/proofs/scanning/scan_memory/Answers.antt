@@ -6,7 +6,7 @@ use Rattle.machine.specs.Views.{program-of, memory-of}
 use Rattle.theory.specs.Standing.{Fitting}
 use Rattle.theory.proofs.Ruled.{formed}
 use Rattle.theory.proofs.Sessions.{inputs-fit}
-use Rattle.machine.proofs.Soundness.{accepted}
+use Rattle.verdict.proofs.Kept.{accepted}
 use Rattle.session.proofs.Fits.{room}
 use Rattle.session.proofs.Passed.{scanned}
 use Rattle.session.proofs.scanning.scan_memory.Needs as need
