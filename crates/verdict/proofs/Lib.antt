@@ -1,3 +1,6 @@
 pub mod NullTables
-pub mod Scanning
 pub mod Kept
+pub mod Scanning
+pub mod Balance
+pub mod Ranges
+pub mod Entries
