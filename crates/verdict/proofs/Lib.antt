@@ -4,3 +4,6 @@ pub mod Scanning
 pub mod Balance
 pub mod Ranges
 pub mod Entries
+pub mod Firsts
+pub mod Refused
+pub mod Loading

@@ -1,4 +1,9 @@
 // The verdict on a program: whether it is accepted, and the place for an accepted one.
 pub mod accepted;
-pub mod depths;
-pub mod null;
+mod depths;
+pub mod fault;
+mod initialised;
+mod judging;
+mod null;
+pub mod place;
+mod units;
