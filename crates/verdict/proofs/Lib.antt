@@ -1,3 +1,2 @@
 pub mod NullTables
-pub mod Scanning
 pub mod Kept
