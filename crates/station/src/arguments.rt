@@ -13,13 +13,13 @@ pub(crate) enum Command {
 pub(crate) fn command_of(mut args: Args) -> Result<Command, Failure> {
     let _ = args.next();
     let Some(verb) = args.next() else {
-        return Err(Failure::Usage);
+        return Err(Failure::Usage("the arguments ask for nothing that the station does"));
     };
     let first = args.next();
     let second = args.next();
     match (verb.as_str(), first, second) {
         ("help", None, None) => Ok(Command::Help),
         ("inspect", Some(image), None) => Ok(Command::Inspect(image)),
-        _ => Err(Failure::Usage),
+        _ => Err(Failure::Usage("the arguments ask for nothing that the station does")),
     }
 }

@@ -1,8 +1,11 @@
 // The station: reads its arguments and does what they ask.
 mod arguments;
 mod failure;
+mod files;
 mod inspect;
 mod listing;
+mod refusals;
+mod sections;
 
 use arguments::Command;
 use arguments::command_of;

@@ -1,0 +1,11 @@
+// Files that are read whole.
+use crate::failure::Failure;
+use std::fs;
+
+/// The bytes of a file.
+pub(crate) fn read_bytes(rt: &LibcRuntime, file: String) -> Result<Vec<u8>, Failure> {
+    match fs::read(rt, file.as_str()) {
+        Ok(bytes) => Ok(bytes),
+        Err(_) => Err(Failure::Wrong(file, "cannot be read")),
+    }
+}
