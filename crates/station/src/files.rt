@@ -9,3 +9,11 @@ pub(crate) fn read_bytes(rt: &LibcRuntime, file: String) -> Result<Vec<u8>, Fail
         Err(_) => Err(Failure::Wrong(file, "cannot be read")),
     }
 }
+
+/// The text of a file, with the file's name handed back.
+pub(crate) fn read_text(rt: &LibcRuntime, file: String) -> Result<(String, String), Failure> {
+    match fs::read_to_string(rt, file.as_str()) {
+        Ok(text) => Ok((file, text)),
+        Err(_) => Err(Failure::Wrong(file, "cannot be read as text")),
+    }
+}
