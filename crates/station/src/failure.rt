@@ -1,4 +1,6 @@
 // Why the station ends with status 1, and what it says then.
+use crate::refusals::write_refusal;
+use rules::refusal::Refusal;
 use std::alloc::AllocError;
 use std::alloc::Refused;
 use std::io;
@@ -6,15 +8,19 @@ use std::io;
 /// A failure of the station.
 #[derive(Drop)]
 pub(crate) enum Failure {
-    /// the program is refused, which has been printed
-    Refused,
-    /// the arguments ask for nothing that the station does
-    Usage,
-    /// a file cannot be read
-    Unreadable(String),
+    /// the program is refused
+    Refused(Refusal),
+    /// the arguments as a whole ask for nothing that the station does
+    Usage(&'static str),
+    /// an argument or a file, and what is wrong with it
+    Wrong(String, &'static str),
+    /// a file, a line of it counted from 1, and what is wrong there
+    WrongLine(String, usize, &'static str),
+    /// no verdict is given on a program that is formed
+    Unfinished,
     /// memory is wanting
     Memory,
-    /// nothing can be written
+    /// the output cannot be written
     Unwritable,
 }
 
@@ -37,15 +43,16 @@ pub(crate) impl From<io::Error> for Failure as FailureFromIo {
 }
 
 impl Failure {
-    /// One line on standard error, except where the failure has been printed already.
+    /// A refusal goes to standard output, anything else as one line to standard error.
     pub(crate) fn tell(&self, rt: &LibcRuntime) {
         let _ = match self {
-            Failure::Refused => Ok(()),
-            Failure::Usage => eprintln!(
-                rt,
-                "station: wrong arguments; `station help` lists what can be asked"
-            ),
-            Failure::Unreadable(file) => eprintln!(rt, "station: {file}: cannot be read"),
+            Failure::Refused(refusal) => write_refusal(&mut rt.stdout(), *refusal),
+            Failure::Usage(what) => eprintln!(rt, "station: {what}; see `station help`"),
+            Failure::Wrong(subject, what) => eprintln!(rt, "station: {subject}: {what}"),
+            Failure::WrongLine(file, line, what) => {
+                eprintln!(rt, "station: {file}:{line}: {what}")
+            }
+            Failure::Unfinished => eprintln!(rt, "station: no verdict is given yet"),
             Failure::Memory => eprintln!(rt, "station: out of memory"),
             Failure::Unwritable => eprintln!(rt, "station: the output cannot be written"),
         };

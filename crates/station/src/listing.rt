@@ -1,5 +1,6 @@
 // Lines as a person reads them.
 use rules::line::Line;
+use rules::unit::UnitId;
 use std::io;
 use std::io::Write;
 
@@ -66,5 +67,16 @@ pub(crate) fn write_line<W: Write>(out: &mut W, line: Line) -> io::Result<()> {
         16..=17 | 19 | 21 => write!(out, "{name} {operand} width {mode}"),
         20 => write!(out, "{name} width {mode}"),
         _ => write!(out, "? code {code} mode {mode} operand {operand}"),
+    }
+}
+
+/// Writes a unit: a module by its name, a mechanism by its number.
+pub(crate) fn write_unit<W: Write>(out: &mut W, unit: UnitId) -> io::Result<()> {
+    match unit {
+        UnitId::Module(module) => {
+            let name = module_name(module);
+            write!(out, "{name:<12}")
+        }
+        UnitId::Mechanism(mechanism) => write!(out, "mechanism {mechanism:<2}"),
     }
 }

@@ -1,8 +1,19 @@
 // The station: reads its arguments and does what they ask.
 mod arguments;
+mod calls;
+mod certify;
+mod conduct;
 mod failure;
+mod files;
 mod inspect;
 mod listing;
+mod loading;
+mod observer;
+mod printer;
+mod reading;
+mod refusals;
+mod rows;
+mod sections;
 
 use arguments::Command;
 use arguments::command_of;
@@ -11,8 +22,19 @@ use failure::FailureFromAlloc;
 use failure::FailureFromIo;
 use std::env;
 
-const HELP: &str = "station inspect IMAGE   the sections of an image, and its text line by line
+const HELP: &str = "station certify IMAGE   the verdict on a program, with its certificate
+station run IMAGE CALLS (--rows ROWS | --patch) [--state] [--quiet]
+                        a session: the calls of a file, on a cabinet
+station inspect IMAGE   the sections of an image, and its text line by line
 station help            this page
+
+CALLS has one call a line: scan, scan COUNT, clear, block, position, and halt at the end.
+ROWS has one row a line: scan number, port and byte, in rising order of the scan numbers.
+In both, empty lines and what follows ; are passed over.
+--rows   the inputs follow the rows of a file
+--patch  each terminal is wired to the input of its number
+--state  each line also shows the data bytes and the points
+--quiet  of the calls, only the last one's line is printed
 ";
 
 fn run(rt: &LibcRuntime) -> Result<(), Failure> {
@@ -22,7 +44,9 @@ fn run(rt: &LibcRuntime) -> Result<(), Failure> {
             rt.print(HELP)?;
             Ok(())
         }
+        Command::Certify(image) => certify::certify(rt, image),
         Command::Inspect(image) => inspect::inspect(rt, image),
+        Command::Run(request) => conduct::run_session(rt, request),
     }
 }
 
