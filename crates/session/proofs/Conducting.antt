@@ -2,9 +2,9 @@
 use mathlib.Core.Path.{_≡_, refl, sym, ap, ap₂, subst, _∙_}
 use mathlib.Core.Bool.{Bool, true, false}
 use mathlib.Core.List.{List, [], _∷_, _++_, map, reverse, reverseAux-append, append-nil}
-use Prim.Native.Nat.{ℕ, _+_, _<_, _≤_}
+use Prim.Native.Nat.{ℕ, zero, suc, _+_, _<_, _≤_}
 use native.Mathlib.Omega.{arith}
-use lib.ListN.{length, getD, take}
+use lib.ListN.{length, getD, take, drop}
 use Rattle.std.proofs.shelf.Lists.{map-append, take-more, take-all}
 use Rattle.rules.specs.declared.session.Phase.{Phase}
 use Rattle.rules.specs.declared.session.Phase.the-variants.{Idle}
@@ -13,7 +13,13 @@ use Rattle.rules.specs.declared.session.Call.the-variants.{Halt}
 use Rattle.rules.specs.declared.session.Answer.{Answer}
 use Rattle.rules.specs.declared.session.Answer.the-variants.{Done}
 use Rattle.rules.specs.Program.{Program}
-use Rattle.rules.specs.Cabinet.{Meaning}
+use Rattle.rules.specs.Cabinet.{Meaning, Lawful}
+use Rattle.rules.specs.Verdict.{Certified}
+use Rattle.rules.specs.Kept.{Guaranteed}
+use Rattle.theory.proofs.Sessions.{guarantee}
+use Rattle.verdict.specs.declared.accepted.Accepted.{Accepted}
+use Rattle.verdict.proofs.Kept.{accepted}
+use Rattle.machine.specs.Views.{program-of}
 use Rattle.rules.specs.Session as rules
 use Rattle.rules.specs.Session.{Machine, Session, started, called, Outcome, Cabinet-after}
 use Rattle.session.specs.declared.call.SessionCall.{SessionCall}
@@ -23,6 +29,7 @@ use Rattle.session.specs.declared.running.Halted.{Halted}
 use Rattle.session.specs.Calls.{call-of, last-call}
 use Rattle.session.specs.States.{program-in, machine-in, machine-at-halt}
 use Rattle.session.specs.Called.{Started, Called, Halted-from}
+use Rattle.session.specs.Conducted.{Stands}
 
 no-halt : (s : SessionCall) → call-of s ≡ Halt → ⊥
 no-halt Scan e = let z : _≡_ {A = ℕ} 0 1 = cc in omega arith
@@ -79,3 +86,15 @@ module _ {C : Type 0} (M : Meaning C) (p : Program) (x₀ : C) where
 
   pub left-session : (calls : List SessionCall) (i : ℕ) (done : List (Call × Answer)) (r : Running C) (machine : Machine) (x : C) → machine ≡ machine-in r → x ≡ r .cabinet → Going calls i done r → Session M p x₀ (Done Idle) (reverse done) machine x
   left-session calls i done r machine x e f w = subst (λ (y : C). Session M p x₀ (Done Idle) (reverse done) machine y) (sym f) (subst (λ (m : Machine). Session M p x₀ (Done Idle) (reverse done) m (r .cabinet)) (sym e) (w .session))
+
+-- THE PROMISE
+
+module _ {C : Type 0} (M : Meaning C) (law : Lawful M) (a : Accepted) (x₀ : C) (lines stack scan : ℕ) (cert : Certified (program-of a) lines stack scan) where
+  pub guaranteed : Guaranteed M (program-of a) stack scan
+  guaranteed = guarantee M law (program-of a) lines stack scan (accepted a) cert
+
+  -- a session without its last calls is a session
+  pub throughout : (k : ℕ) (done : List (Call × Answer)) (machine : Machine) (x : C) → Session M (program-of a) x₀ (Done Idle) done machine x → Stands M (program-of a) stack scan x₀ (drop k done)
+  throughout zero done machine x s = record { machine = machine; cabinet = x; session = s; kept = guaranteed .kept x₀ (Done Idle) done machine x s }
+  throughout (suc k) [] machine x s = record { machine = machine; cabinet = x; session = s; kept = guaranteed .kept x₀ (Done Idle) [] machine x s }
+  throughout (suc k) (e ∷ done) machine x (called {before = b} {x = w} s u o v) = throughout k done b w s

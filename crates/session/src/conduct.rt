@@ -1,4 +1,5 @@
 // Whole sessions: a start, any list of calls, and perhaps a halt.
+use certificate::contents::Certificate;
 use machine::memory::Memory;
 use rules::session::Answer;
 use rules::session::Call;
@@ -6,9 +7,10 @@ use rules::session::Phase;
 
 pub mod conducting;
 
-/// What a session answered, call by call, and what it left.
+/// A session that was conducted: the certificate of its program, what it answered, call by call, and what it left.
 #[derive(Drop)]
 pub struct Conducted<C> {
+    pub certificate: Certificate,
     pub transcript: Vec<(Call, Answer)>,
     pub cabinet: C,
     pub memory: Memory,

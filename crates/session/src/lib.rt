@@ -2,5 +2,6 @@
 pub mod answer;
 pub mod call;
 pub mod conduct;
+pub mod observer;
 pub mod running;
 mod scanning;

@@ -14,15 +14,18 @@ use super::Running;
 use crate::answer::CallFault;
 use crate::answer::ScanAnswer;
 use crate::call::SessionCall;
+use crate::observer::Observer;
 use crate::scanning::scan_memory;
 use crate::scanning::send_outputs;
 use cabinet::Cabinet;
+use cabinet::ports::terminals;
 use lines::bits::bit_at;
 use machine::memory::Memory;
 use machine::fresh::fresh;
 use machine::pass::pass;
 use rules::refusal::Rule;
 use rules::session::Answer;
+use rules::session::Call;
 use rules::session::Phase;
 use std::alloc::AllocError;
 use std::alloc::Global;
@@ -180,5 +183,17 @@ impl<C: Cabinet> Running<'_, C> {
             phase,
         } = self;
         (cabinet, memory, phase)
+    }
+
+    /// Tells an observer of the start, or of a call that was made, and what it answered.
+    pub fn show<O: Observer>(&self, observer: &mut O, call: Option<Call>, answer: Answer) {
+        observer.note(call, answer, &self.memory, terminals(&self.cabinet));
+    }
+}
+
+impl<C: Cabinet> Halted<C> {
+    /// Tells an observer of the halt, and what it answered.
+    pub fn show<O: Observer>(&self, observer: &mut O, answer: Answer) {
+        observer.note(Some(Call::Halt), answer, &self.memory, terminals(&self.cabinet));
     }
 }
