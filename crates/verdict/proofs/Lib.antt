@@ -1,3 +1,9 @@
 pub mod NullTables
-pub mod Scanning
 pub mod Kept
+pub mod Scanning
+pub mod Balance
+pub mod Ranges
+pub mod Entries
+pub mod Firsts
+pub mod Refused
+pub mod Loading

@@ -1,3 +1,9 @@
-// The verdict on a program: whether it is accepted, and its certificate.
+// The verdict on a program: whether it is accepted, and the place for an accepted one.
 pub mod accepted;
-pub mod null;
+mod depths;
+pub mod fault;
+mod initialised;
+mod judging;
+mod null;
+pub mod place;
+mod units;

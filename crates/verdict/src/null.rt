@@ -10,7 +10,7 @@ use std::alloc::Global;
 use text::formed::Formed;
 
 /// The null program: 17 zero data bytes, no mechanism, and seven modules without a line.
-pub fn null_program(heap: Global) -> Result<Accepted, AllocError>
+pub(crate) fn null_program(heap: Global) -> Result<Accepted, AllocError>
     ensures { λ r. ⌜ made r (λ a. meant (a .formed .program) ≡ null-program) ⌝ }
 {
     let initial = Vec::from_slice(heap, &[0; 17])?;

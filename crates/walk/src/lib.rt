@@ -1,5 +1,5 @@
 // Measures of routes, and the walk that finds them at each line of a unit.
-mod lines;
+pub mod lines;
 pub mod measure;
 pub mod table;
 pub mod unit_text;

@@ -7,7 +7,7 @@ ghost use Rattle.walk.specs.UnitTexts.{program-of};
 use crate::unit_text::UnitText;
 use rules::line::Line;
 
-// The line of a number that is below the unit's end.
+/// The line of a number that is below the unit's end.
 pub fn line_of(unit: &UnitText<'_>, l: usize) -> Line
     requires { ⌜ l < now unit .end ⌝ }
     ensures { λ r. ⌜ r ≡ line-at (program-of (now (unit .entry))) l ⌝ }
@@ -15,7 +15,7 @@ pub fn line_of(unit: &UnitText<'_>, l: usize) -> Line
     unit.formed.program.lines[l]
 }
 
-// The line that follows an own line of the unit: after MECH_BEGIN comes the line after its MECH_END.
+/// The line that follows an own line of the unit: after MECH_BEGIN comes the line after its MECH_END.
 pub fn following(unit: &UnitText<'_>, l: usize, line: Line) -> usize
     requires own { ⌜ Own (program-of (now unit)) (now unit .id) l ⌝ }
     requires read { ⌜ line ≡ line-at (program-of (now unit)) l ⌝ }
@@ -28,7 +28,7 @@ pub fn following(unit: &UnitText<'_>, l: usize, line: Line) -> usize
     }
 }
 
-// Whether a line is EX, EX0 or EX1.
+/// Whether a line is EX, EX0 or EX1.
 pub fn is_exit(line: Line) -> bool
     ensures { λ r. ⌜ r ≡ is-exit line ⌝ }
 {

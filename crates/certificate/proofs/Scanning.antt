@@ -1,4 +1,4 @@
--- The longest scan, from the bounds of its units. Assumes nothing.
+-- The longest scan, from the bounds of its units, which are small. Assumes nothing.
 use mathlib.Core.Path.{_≡_, refl, subst}
 use mathlib.Core.Logic.{_⊎_, inl, inr}
 use Prim.Native.Nat.{ℕ, _+_, _<_, _≤_, max}
@@ -7,6 +7,24 @@ use Rattle.std.proofs.shelf.Tests.{cases-lt}
 use Rattle.rules.specs.declared.unit.UnitId.the-variants.{Module}
 use Rattle.rules.specs.Program.{Program, input-module, block-init, block-done, main-module}
 use Rattle.rules.specs.Route.{Takes, Block-takes, Scan-takes, Greatest}
+use Rattle.image.specs.Held.{meant}
+use Rattle.text.specs.declared.formed.Formed.{Formed}
+use Rattle.text.proofs.Shape.{formed-by-rules}
+use Rattle.theory.proofs.Text.{named, end-within}
+use Rattle.theory.proofs.Orderly.{orderly}
+use Rattle.theory.proofs.Ends.{takes-bound}
+use Rattle.walk.proofs.Givens.{lines-few}
+
+-- a module of a formed program has few steps
+pub few-steps : (f : Formed) (t n : ℕ) → t < 7 → Greatest (Takes (meant (f .program)) (Module t)) n → n ≤ 2048
+few-steps f t n h g =
+    let p = meant (f .program) in
+    let by = formed-by-rules f in
+    let real = named p (by .shaped) t h in
+    let a = takes-bound p (by .shaped) (orderly p by) t n real (g .attained) in
+    let b = end-within p t (by .shaped .all-lines) in
+    let m = lines-few f in
+    omega arith
 
 module _ (p : Program) {a b c d : ℕ} (input : Greatest (Takes p (Module input-module)) a) (before : Greatest (Takes p (Module block-init)) b) (behind : Greatest (Takes p (Module block-done)) c) (main : Greatest (Takes p (Module main-module)) d) where
   block-within : (n : ℕ) → Block-takes p n → n ≤ max b c

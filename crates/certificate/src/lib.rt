@@ -1,0 +1,6 @@
+// The certificate of an accepted program.
+pub mod bounds;
+pub mod contents;
+pub mod issue;
+mod real_unit;
+mod stack;
