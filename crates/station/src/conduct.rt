@@ -48,9 +48,22 @@ fn read_rows(rt: &LibcRuntime, file: String) -> Result<Vec<Row>, Failure> {
 }
 
 /// Prints the session of a mounted program on a cabinet, call by call.
-fn print_session<C: Cabinet + Drop>(rt: &LibcRuntime, place: &Place, cabinet: C, calls: &Calls, mut printer: Printer<BufWriter<Stdout>>) -> Result<(), Failure> {
+fn print_session<C: Cabinet + Drop>(
+    rt: &LibcRuntime,
+    place: &Place,
+    cabinet: C,
+    calls: &Calls,
+    mut printer: Printer<BufWriter<Stdout>>,
+) -> Result<(), Failure> {
     let list = calls.list.as_slice();
-    match conduct(place.program(), cabinet, list, calls.halts, &mut printer, rt.alloc()) {
+    match conduct(
+        place.program(),
+        cabinet,
+        list,
+        calls.halts,
+        &mut printer,
+        rt.alloc(),
+    ) {
         Ok(conducted) => printer.finish(&conducted.memory, conducted.certificate.scan),
         Err(_) => Err(Failure::Memory),
     }
