@@ -104,7 +104,7 @@ fn file_of(mut args: Args) -> Result<String, Failure> {
     match (args.next(), args.next()) {
         (Some(file), None) => Ok(file),
         (None, _) => Err(Failure::Usage("an image has to be named")),
-        (_, Some(word)) => Err(Failure::Wrong(word, "unknown option")),
+        (_, Some(word)) => Err(Failure::Wrong(word, "one argument too many")),
     }
 }
 
@@ -120,7 +120,7 @@ pub(crate) fn command_of(mut args: Args) -> Result<Command, Failure> {
         "run" => Ok(Command::Run(request_of(args)?)),
         "help" => match args.next() {
             None => Ok(Command::Help),
-            Some(word) => Err(Failure::Wrong(word, "unknown option")),
+            Some(word) => Err(Failure::Wrong(word, "one argument too many")),
         },
         _ => Err(Failure::Wrong(verb, "the station has no such command")),
     }

@@ -48,7 +48,9 @@ fn asked_by(line: &str) -> Result<Asked, &'static str> {
         ("block", None, None) => Ok(Asked::Times(SessionCall::BlockStart, 1)),
         ("position", None, None) => Ok(Asked::Times(SessionCall::PositionReport, 1)),
         ("halt", None, None) => Ok(Asked::Halt),
-        ("scan" | "clear" | "block" | "position" | "halt", _, _) => Err("too many words after the call"),
+        ("scan" | "clear" | "block" | "position" | "halt", _, _) => Err(
+            "too many words after the call",
+        ),
         _ => Err("no such call: scan, clear, block, position or halt is expected"),
     }
 }

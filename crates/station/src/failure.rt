@@ -16,8 +16,6 @@ pub(crate) enum Failure {
     Wrong(String, &'static str),
     /// a file, a line of it counted from 1, and what is wrong there
     WrongLine(String, usize, &'static str),
-    /// no verdict is given on a program that is formed
-    Unfinished,
     /// memory is wanting
     Memory,
     /// the output cannot be written
@@ -52,7 +50,6 @@ impl Failure {
             Failure::WrongLine(file, line, what) => {
                 eprintln!(rt, "station: {file}:{line}: {what}")
             }
-            Failure::Unfinished => eprintln!(rt, "station: no verdict is given yet"),
             Failure::Memory => eprintln!(rt, "station: out of memory"),
             Failure::Unwritable => eprintln!(rt, "station: the output cannot be written"),
         };

@@ -12,8 +12,11 @@ pub(crate) fn read_bytes(rt: &LibcRuntime, file: String) -> Result<Vec<u8>, Fail
 
 /// The text of a file, with the file's name handed back.
 pub(crate) fn read_text(rt: &LibcRuntime, file: String) -> Result<(String, String), Failure> {
-    match fs::read_to_string(rt, file.as_str()) {
+    let Ok(bytes) = fs::read(rt, file.as_str()) else {
+        return Err(Failure::Wrong(file, "cannot be read"));
+    };
+    match String::from_utf8(bytes) {
         Ok(text) => Ok((file, text)),
-        Err(_) => Err(Failure::Wrong(file, "cannot be read as text")),
+        Err(_) => Err(Failure::Wrong(file, "is no text")),
     }
 }

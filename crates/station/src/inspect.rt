@@ -19,9 +19,11 @@ use text::forming::form;
 fn write_text<W: Write>(out: &mut W, formed: &Formed) -> io::Result<()> {
     writeln!(out, "text: line, unit, text flag, instruction")?;
     for number in 0..formed.program.lines.len() {
-        let (Some(unit), Some(flag), Some(line)) =
-            (formed.unit_of(number), formed.flag_at(number), formed.line(number))
-        else {
+        let (Some(unit), Some(flag), Some(line)) = (
+            formed.unit_of(number),
+            formed.flag_at(number),
+            formed.line(number),
+        ) else {
             continue;
         };
         let flag = u8::from(flag);

@@ -8,7 +8,6 @@ mod files;
 mod inspect;
 mod listing;
 mod loading;
-mod observer;
 mod printer;
 mod reading;
 mod refusals;

@@ -1,10 +1,10 @@
 // A session as a person reads it, call by call.
 use crate::failure::Failure;
 use crate::failure::FailureFromIo;
-use crate::observer::Observer;
 use machine::memory::Memory;
 use rules::session::Answer;
 use rules::session::Call;
+use session::observer::Observer;
 use std::io;
 use std::io::Write;
 
