@@ -1,3 +1,5 @@
 pub mod Moved
 pub mod Depths
 pub mod Scanning
+pub mod Back
+pub mod Counting

@@ -3,4 +3,5 @@ pub mod bounds;
 pub mod contents;
 pub mod issue;
 mod real_unit;
+pub mod routes;
 mod stack;
