@@ -3,3 +3,4 @@ pub mod Depths
 pub mod Scanning
 pub mod Back
 pub mod Counting
+pub mod Each

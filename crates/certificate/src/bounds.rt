@@ -16,7 +16,7 @@ use std::alloc::Global;
 use text::formed::Formed;
 
 // The greatest number of steps of a unit's routes.
-fn bound_of(formed: &Formed, id: UnitId, bounds: &[u32], heap: Global) -> Result<u32, AllocError>
+pub fn bound_of(formed: &Formed, id: UnitId, bounds: &[u32], heap: Global) -> Result<u32, AllocError>
     requires real { ⌜ Real (meant (now formed .program)) id ⌝ }
     requires bounded { ⌜ Bounds-hold (meant (now formed .program)) id (now bounds) ⌝ }
     ensures { λ r. ⌜ made r (λ n. Greatest (Takes (meant (now (formed .entry) .program)) id) n) ⌝ }

@@ -4,4 +4,5 @@ pub mod contents;
 pub mod issue;
 mod real_unit;
 pub mod routes;
+pub mod scan;
 mod stack;
