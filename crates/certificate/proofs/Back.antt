@@ -1,21 +1,18 @@
 -- Going back along a longest route of a unit, by the table of its walk. Assumes nothing.
 use mathlib.Core.Path.{_≡_, refl, sym, ap, subst, _∙_}
 use mathlib.Core.List.{List, [], _∷_, _++_, append-assoc, append-nil}
-use mathlib.Core.Logic.{_⊎_, inl, inr}
+use mathlib.Core.Logic.{inl, inr}
 use Prim.Native.Nat.{ℕ, _+_, _-_, _^_, _<_, _≤_, min, max}
 use native.Mathlib.Omega.{arith}
-use lib.ListN.{length, getD}
 use Rattle.std.specs.declared.option.Option.{Option}
-use Rattle.std.specs.declared.option.Option.the-variants.{Some, None}
-use Rattle.rules.specs.declared.line.Line.{Line}
+use Rattle.std.specs.declared.option.Option.the-variants.{Some}
 use Rattle.rules.specs.declared.unit.UnitId.{UnitId}
-use Rattle.rules.specs.Program.{Program, Own, line-at, first, end}
-use Rattle.rules.specs.Route.{Arrives, at-entry, passed, Route, to-end, stopped, Greatest}
+use Rattle.rules.specs.Program.{Program, Own, line-at, end}
+use Rattle.rules.specs.Route.{Arrives, passed, Route, to-end, stopped, Greatest}
 use Rattle.walk.specs.Joins.{JoinOf}
-use Rattle.walk.specs.Walked.{Own-or-end, along, Brought, Whole, Walked}
+use Rattle.walk.specs.Walked.{along, Brought, Whole, Walked}
 use Rattle.walk.proofs.Sound.{Sound, place-low}
 use Rattle.walk.proofs.Totals.{entry-joins}
-use Rattle.walk.proofs.Walking.{some-same}
 use Rattle.measures.specs.Models.{bound-of, steps-after}
 use Rattle.measures.proofs.Longest.{largest}
 use Rattle.certificate.specs.Longest.{Longest-at, Goes-past, Leads, Stops, Goes-on}

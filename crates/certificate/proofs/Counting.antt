@@ -1,7 +1,7 @@
 -- The steps that are counted along a route are steps of that route. Assumes nothing.
 use mathlib.Core.Path.{_≡_, refl, sym, ap, subst, _∙_}
 use mathlib.Core.Bool.{Bool, true, false}
-use mathlib.Core.List.{List, [], _∷_}
+use mathlib.Core.List.{List, _∷_}
 use Prim.Native.Nat.{ℕ, suc, _+_, _<_, _≤_}
 use native.Mathlib.Omega.{arith}
 use lib.ListN.{length, getD}
@@ -13,7 +13,7 @@ use Rattle.rules.specs.Program.{Program, Own, Real, line-at, main-module}
 use Rattle.rules.specs.Image.{line-section}
 use Rattle.rules.specs.Form.{Shaped}
 use Rattle.rules.specs.Verdict.{Formed}
-use Rattle.rules.specs.Route.{Arrives, at-entry, passed, Route, to-end, stopped, Steps, none, line, entered, Takes, Greatest}
+use Rattle.rules.specs.Route.{Arrives, at-entry, passed, Route, to-end, stopped, Steps, none, line, entered}
 use Rattle.theory.proofs.Text.{end-within}
 use Rattle.theory.proofs.Orderly.{Orderly, orderly, clash}
 use Rattle.theory.proofs.Units.{own-mechanism, make-module}

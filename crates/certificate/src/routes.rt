@@ -110,13 +110,7 @@ fn leads(
 }
 
 // Whether a longest route of the unit, with v steps, may stop at line l.
-fn stops(
-    steps: &Steps<'_>,
-    unit: &UnitText<'_>,
-    table: &Vec<Option<u32>>,
-    l: usize,
-    v: u32,
-) -> bool
+fn stops(steps: &Steps<'_>, unit: &UnitText<'_>, table: &Vec<Option<u32>>, l: usize, v: u32) -> bool
     requires walked { ⌜ Walked 0 (steps-after (now (now steps .bounds))) max (program-of (now unit)) (now unit .id) (vec-items (now table)) ⌝ }
     requires low { ⌜ now unit .first ≤ l ⌝ }
     requires high { ⌜ l < now unit .end ⌝ }

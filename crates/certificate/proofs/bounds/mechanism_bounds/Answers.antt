@@ -16,9 +16,10 @@ bound-of-requires c κs = record { real = (let o = c .args .formed .now .program
 pub loop-k-again : need.loop-k-again
 loop-k-again c =
     let inv = c .loop-k .inv in
-    let items = c .in-Continue-push .ensures tt .items in
-    (ap length items ∙ length-push (vec-items (c .loop-k .bounds)) (c .in-Continue-bound .bound) ∙ ap (λ (n : ℕ). n + 1) (inv .0),
-    each-more (λ j n. Greatest (Takes (meant (c .args .formed .now .program)) (Mechanism j)) n) _ _ _ 0 _ items (inv .0) (inv .1) (c .in-Continue-bound .ensures tt))
+    let items = c .in-Continue-push .ensures tt .items in (
+      ap length items ∙ length-push (vec-items (c .loop-k .bounds)) (c .in-Continue-bound .bound) ∙ ap (λ (n : ℕ). n + 1) (inv .0),
+      each-more (λ j n. Greatest (Takes (meant (c .args .formed .now .program)) (Mechanism j)) n) _ _ _ 0 _ items (inv .0) (inv .1) (c .in-Continue-bound .ensures tt),
+    )
 
 pub returns : need.returns
 returns c =

@@ -31,11 +31,13 @@ loop-left-again c =
     let l = c .previous-at .result in
     let s = c .previous-at .ensures in
     let here = c .steps-to-left-in-loop-left .ensures in
-    let left = c .steps-to-left-in-loop-left .result in
-    (here, λ n v read h.
-    subst (λ (w : ℕ). Goes-on p (u .id) bounds n (vec-items (c .push .last .self)) l w) (some-same (s .0 .read) (here .read))
-    (subst (λ (z : List ℕ). Goes-on p (u .id) bounds n z l (s .0 .value)) (sym (c .in-Continue-push .ensures tt .items))
-    (one-back p (u .id) (unit-sound u) bounds table (c .pre .walked) n (c .loop-left .at) (c .loop-left .left) l (vec-items (c .loop-left .lines)) s (c .loop-left .inv .1 n v read h))))
+    let left = c .steps-to-left-in-loop-left .result in (
+      here,
+      λ n v read h.
+          subst (λ (w : ℕ). Goes-on p (u .id) bounds n (vec-items (c .push .last .self)) l w) (some-same (s .0 .read) (here .read))
+          (subst (λ (z : List ℕ). Goes-on p (u .id) bounds n z l (s .0 .value)) (sym (c .in-Continue-push .ensures tt .items))
+          (one-back p (u .id) (unit-sound u) bounds table (c .pre .walked) n (c .loop-left .at) (c .loop-left .left) l (vec-items (c .loop-left .lines)) s (c .loop-left .inv .1 n v read h))),
+    )
 
 pub returns : need.returns
 returns c n v read h =

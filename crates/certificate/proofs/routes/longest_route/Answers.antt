@@ -1,5 +1,5 @@
 use mathlib.Core.Path.{_≡_, sym, ap, subst, _∙_}
-use mathlib.Core.List.{List, reverse, reverse-reverse}
+use mathlib.Core.List.{reverse, reverse-reverse}
 use Rattle.std.specs.Of.Vec.{vec-items}
 use Rattle.rules.specs.Route.{Steps}
 use Rattle.text.proofs.Shape.{formed-by-rules}

@@ -1,4 +1,4 @@
-use mathlib.Core.Path.{_≡_, sym, _∙_}
+use mathlib.Core.Path.{sym}
 use native.Mathlib.Omega.{arith}
 use Rattle.walk.proofs.Givens.{unit-sound}
 use Rattle.walk.proofs.Sound.{place-low, place-high}

@@ -19,9 +19,10 @@ route-of-requires c κs = record { real = (let o = c .args .formed .now .program
 pub loop-k-again : need.loop-k-again
 loop-k-again c =
     let inv = c .loop-k .inv in
-    let items = c .in-Continue-push .ensures tt .items in
-    (ap length items ∙ length-push (vec-items (c .loop-k .routes)) (c .in-Continue-route .route) ∙ ap (λ (n : ℕ). n + 1) (inv .0),
-    λ j other lt. each-more (λ j (v : Vec ℕ Global). Longest (meant (c .args .formed .now .program)) (Mechanism j) (reverse (vec-items v))) _ _ _ other _ items (inv .0) (λ i h. inv .1 i other h) (c .in-Continue-route .ensures tt) j lt)
+    let items = c .in-Continue-push .ensures tt .items in (
+      ap length items ∙ length-push (vec-items (c .loop-k .routes)) (c .in-Continue-route .route) ∙ ap (λ (n : ℕ). n + 1) (inv .0),
+      λ j other lt. each-more (λ j (v : Vec ℕ Global). Longest (meant (c .args .formed .now .program)) (Mechanism j) (reverse (vec-items v))) _ _ _ other _ items (inv .0) (λ i h. inv .1 i other h) (c .in-Continue-route .ensures tt) j lt,
+    )
 
 pub returns : need.returns
 returns c =
