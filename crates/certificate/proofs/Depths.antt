@@ -14,9 +14,9 @@ use Rattle.std.specs.declared.option.Option.{Option}
 use Rattle.std.specs.declared.option.Option.the-variants.{Some, None}
 use Rattle.rules.specs.declared.unit.UnitId.{UnitId}
 use Rattle.rules.specs.declared.unit.UnitId.the-variants.{Module, Mechanism}
-use Rattle.rules.specs.Program.{Program, Real, input-module, first, end}
+use Rattle.rules.specs.Program.{Program, Real, input-module, first}
 use Rattle.rules.specs.Form.{Shaped}
-use Rattle.rules.specs.Route.{Arrives, at-entry, depth}
+use Rattle.rules.specs.Route.{at-entry, depth}
 use Rattle.rules.specs.Verdict.{Depth-of}
 use Rattle.theory.proofs.Text.{named}
 use Rattle.walk.proofs.Sound.{Sound, place-low, place-high}

@@ -1,3 +1,6 @@
 pub mod Moved
 pub mod Depths
 pub mod Scanning
+pub mod Back
+pub mod Counting
+pub mod Each

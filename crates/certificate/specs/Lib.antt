@@ -1,2 +1,3 @@
 pub mod Longest
 pub mod Deepest
+pub mod Scans

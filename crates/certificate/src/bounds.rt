@@ -1,7 +1,5 @@
 // The longest routes: the greatest number of steps of each mechanism's routes, and of a scan's.
-ghost use mathlib.Core.Path.{_≡_};
-ghost use lib.ListN.{length};
-ghost use Rattle.std.specs.Of.Vec.{vec-items, vec-len};
+ghost use Rattle.std.specs.Of.Vec.{vec-items};
 ghost use Rattle.std.specs.Vec.{made};
 ghost use Rattle.rules.specs.Program.{Real};
 ghost use Rattle.rules.specs.Route.{Takes, Scan-takes, Greatest};
@@ -16,7 +14,12 @@ use std::alloc::Global;
 use text::formed::Formed;
 
 // The greatest number of steps of a unit's routes.
-fn bound_of(formed: &Formed, id: UnitId, bounds: &[u32], heap: Global) -> Result<u32, AllocError>
+pub(crate) fn bound_of(
+    formed: &Formed,
+    id: UnitId,
+    bounds: &[u32],
+    heap: Global,
+) -> Result<u32, AllocError>
     requires real { ⌜ Real (meant (now formed .program)) id ⌝ }
     requires bounded { ⌜ Bounds-hold (meant (now formed .program)) id (now bounds) ⌝ }
     ensures { λ r. ⌜ made r (λ n. Greatest (Takes (meant (now (formed .entry) .program)) id) n) ⌝ }

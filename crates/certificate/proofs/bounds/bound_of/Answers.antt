@@ -1,7 +1,5 @@
 use mathlib.Core.Path.{sym}
 use Rattle.std.specs.Vec.{made}
-use Rattle.rules.specs.declared.unit.UnitId.{UnitId}
-use Rattle.rules.specs.Program.{Program}
 use Rattle.rules.specs.Route.{Takes, Greatest}
 use Rattle.measures.specs.Meaning.{Bounds-hold}
 use Rattle.certificate.proofs.Moved.{moved}
