@@ -1,28 +1,17 @@
--- Where the jumps of a unit may go. Assumes nothing.
-use mathlib.Core.Path.{_≡_, refl, sym, _∙_}
+-- The units that lines stand in. Assumes nothing.
+use mathlib.Core.Path.{_≡_, refl}
 use mathlib.Core.Bool.{Bool, true, false, cond}
 use mathlib.Core.List.{List, [], _∷_}
-use mathlib.Core.Logic.{inl, inr}
 use Prim.Native.Nat.{ℕ, _+_, _-_, _<_}
 use native.Mathlib.Omega.{arith}
 use lib.Dec.{eqb, ltb}
 use lib.ListN.{length}
-use Rattle.std.specs.Orderings.{Decides}
 use Rattle.std.specs.declared.option.Option.{Option}
 use Rattle.std.specs.declared.option.Option.the-variants.{Some, None}
-use Rattle.std.proofs.shelf.Tests.{eqb-true, eq-eqb, ltb-false}
+use Rattle.std.proofs.shelf.Tests.{ltb-false}
 use Rattle.rules.specs.declared.unit.UnitId.the-variants.{Module}
-use Rattle.rules.specs.Program.{Program, Own, total, module-of, module-end, main-module, main-or, open-at, unit-of}
-use Rattle.rules.specs.Form.{Lands}
+use Rattle.rules.specs.Program.{Program, total, module-of, main-module, main-or, open-at, unit-of}
 use Rattle.text.specs.Targets.{Numbered}
-
--- where a module does not own a place, only its end is left
-pub landing : (p : Program) (t m e : ℕ) → (Own p (Module m) t → ⊥) → e ≡ module-end p m → Decides (eqb t e) (Lands p t (Module m))
-landing p t m e n is = (λ h. inr (eqb-true t e h ∙ is), back)
-  where
-    back : Lands p t (Module m) → eqb t e ≡ true
-    back (inl o) = absurd (n o)
-    back (inr q) = eq-eqb t e (q ∙ sym is)
 
 module-below : (ns : List ℕ) (l : ℕ) → l < total ns → module-of ns l < length ns
 module-below [] l h = absurd (omega arith)

@@ -18,7 +18,7 @@ use Rattle.std.proofs.shelf.Elements.{has-from-contains}
 use Rattle.std.proofs.shelf.Lists.{getD-default}
 use Rattle.rules.specs.declared.unit.UnitId.the-variants.{Module}
 use Rattle.rules.specs.Op.{is-begin, is-end}
-use Rattle.rules.specs.Program.{Program, Own, total, line-at, main-module, module-first, module-end, module-of, open-at, begin-line}
+use Rattle.rules.specs.Program.{Program, Own, line-at, main-module, module-first, module-end, module-of, open-at, begin-line}
 use Rattle.rules.specs.Form.{Shaped, Left-over, Bad-mechanism}
 use Rattle.theory.proofs.Text.{named, open-more, module-is, end-within}
 use Rattle.theory.proofs.Orderly.{clash}

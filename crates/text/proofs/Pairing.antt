@@ -1,20 +1,19 @@
 -- Lines that begin and end mechanisms, against the units of the lines and the first MECH_BEGIN of each mechanism. Assumes nothing.
 use mathlib.Core.Path.{_≡_, refl, ap}
 use mathlib.Core.Bool.{true, false, _&&_}
-use mathlib.Core.Logic.{_⊎_, inl, inr}
+use mathlib.Core.Logic.{inl, inr}
 use Prim.Native.Nat.{ℕ, _<_, _≤_}
 use native.Mathlib.Omega.{arith}
 use lib.Dec.{eqb}
 use lib.ListN.{length}
-use Rattle.std.specs.declared.option.Option.the-variants.{Some, None}
-use Rattle.std.proofs.shelf.Tests.{cases-eq, eqb-true, eq-eqb, and-from, and-parts, both-ways}
+use Rattle.std.proofs.shelf.Tests.{eqb-true, eq-eqb, and-from, and-parts, both-ways}
 use Rattle.rules.specs.declared.line.Line.{Line}
-use Rattle.rules.specs.declared.unit.UnitId.the-variants.{Module, Mechanism}
+use Rattle.rules.specs.declared.unit.UnitId.the-variants.{Module}
 use Rattle.rules.specs.Op.{is-begin, is-end}
-use Rattle.rules.specs.Program.{Program, Own, no-line, line-at, main-module, module-of, open-at, begin-line}
+use Rattle.rules.specs.Program.{Program, Own, no-line, line-at, main-module, begin-line}
 use Rattle.rules.specs.Form.{Begun}
-use Rattle.theory.proofs.Spans.{find-least, find-there, begins-not-ends}
-use Rattle.theory.proofs.Units.{own-module, own-mechanism, make-module, make-mechanism}
+use Rattle.theory.proofs.Spans.{find-least, find-there}
+use Rattle.theory.proofs.Units.{own-module}
 use Rattle.text.specs.Mechanisms.{Unpaired}
 
 ends-not-begins : (x : Line) → is-begin x ≡ true → is-end x ≡ false
@@ -33,13 +32,6 @@ module _ (p : Program) (k : ℕ) where
       (h, q .0, eqb-true (b .operand) k (q .1))
 
 module _ (p : Program) (l : ℕ) (inside : l < length (p .lines)) where
-  pub bad-begin-unit : is-begin (line-at p l) ≡ true → (Own p (Module main-module) l → ⊥) → Unpaired p l
-  bad-begin-unit b n = (inside, inl (b, go (cases-eq (module-of (p .lengths) l) main-module)))
-    where
-      go : (module-of (p .lengths) l ≡ main-module) ⊎ (module-of (p .lengths) l ≡ main-module → ⊥) → (module-of (p .lengths) l ≡ main-module → ⊥) ⊎ (open-at p l ≡ None → ⊥) ⊎ ((j : ℕ) × (j < l) × Begun p (line-at p l .operand) j)
-      go (inl q) = inr (inl (λ o. n (make-module p main-module l inside q (λ _. o))))
-      go (inr d) = inl d
-
   pub bad-begin-again : is-begin (line-at p l) ≡ true → begin-line p (line-at p l .operand) < l → Unpaired p l
   bad-begin-again b h = (inside, inl (b, inr (inr (begin-line p (line-at p l .operand), h, begun-there p (line-at p l .operand) (omega arith)))))
 
@@ -48,19 +40,3 @@ module _ (p : Program) (l : ℕ) (inside : l < length (p .lines)) where
   good-begin b o h (_, inl (_, inr (inl n))) = n (own-module p main-module l o .1 refl)
   good-begin b o h (_, inl (_, inr (inr (j, g, d)))) = let q = begun-by p (line-at p l .operand) j d in omega arith
   good-begin b o h (_, inr (e, _)) = both-ways (is-end (line-at p l)) (ends-not-begins (line-at p l) b) e
-
-  pub bad-end : is-end (line-at p l) ≡ true → (Own p (Mechanism (line-at p l .operand)) l → ⊥) → Unpaired p l
-  bad-end e n = (inside, inr (e, go (cases-eq (module-of (p .lengths) l) main-module)))
-    where
-      go : (module-of (p .lengths) l ≡ main-module) ⊎ (module-of (p .lengths) l ≡ main-module → ⊥) → (module-of (p .lengths) l ≡ main-module → ⊥) ⊎ (open-at p l ≡ Some (line-at p l .operand) → ⊥)
-      go (inl q) = inr (λ o. n (make-mechanism p (line-at p l .operand) l inside q o))
-      go (inr d) = inl d
-
-  pub good-end : is-end (line-at p l) ≡ true → Own p (Mechanism (line-at p l .operand)) l → Unpaired p l → ⊥
-  good-end e o (_, inl (b, _)) = both-ways (is-begin (line-at p l)) (begins-not-ends (line-at p l) e) b
-  good-end e o (_, inr (_, inl n)) = n (own-mechanism p (line-at p l .operand) l o .0)
-  good-end e o (_, inr (_, inr n)) = n (own-mechanism p (line-at p l .operand) l o .1)
-
-  pub good-other : is-begin (line-at p l) ≡ false → is-end (line-at p l) ≡ false → Unpaired p l → ⊥
-  good-other b e (_, inl (c, _)) = both-ways (is-begin (line-at p l)) b c
-  good-other b e (_, inr (c, _)) = both-ways (is-end (line-at p l)) e c

@@ -1,8 +1,6 @@
 -- A program as read has its shape, and a formed program is formed by the rules. Assumes nothing.
-use mathlib.Core.Path.{_≡_, subst, _∙_}
-use mathlib.Core.List.{List}
+use mathlib.Core.Path.{subst, _∙_}
 use Prim.Native.Nat.{ℕ}
-use native.Mathlib.Omega.{arith}
 use Rattle.std.specs.Of.Vec.{vec-items}
 use Rattle.rules.specs.Image.{Section, data-section, mechanism-section, module-section, line-section}
 use Rattle.rules.specs.Form.{Shaped, In-range, Bits-inside, records}

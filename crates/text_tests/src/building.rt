@@ -4,6 +4,9 @@ ghost use mathlib.Core.Bool.{true};
 ghost use Prim.Native.Nat.{ℕ, _<_};
 ghost use lib.ListN.{length, getD};
 ghost use Rattle.rules.specs.Program.{total};
+ghost use Rattle.std.specs.Slices.{found};
+ghost use Rattle.std.specs.Vec.{made};
+ghost use Rattle.text_tests.specs.Built.{Built};
 use image::program::Program;
 use rules::line::Line;
 use std::alloc::AllocError;
@@ -40,7 +43,9 @@ pub fn program(
     activation: &[u16],
     lengths: &[u16],
     lines: &[Line],
-) -> Result<Option<Program>, AllocError> {
+) -> Result<Option<Program>, AllocError>
+    ensures { λ r. ⌜ made r (λ o. found o (λ p. Built p (now (activation .entry)) (now (lengths .entry)) (now (lines .entry)))) ⌝ }
+{
     if lengths.len() != 7 || activation.len() > 32 || lines.len() > 2048 {
         return Ok(None);
     }

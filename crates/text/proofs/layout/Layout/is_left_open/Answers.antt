@@ -2,13 +2,12 @@ use mathlib.Core.Path.{_≡_, sym, ap, _∙_, subst}
 use mathlib.Core.Bool.{Bool, not}
 use Prim.Native.Nat.{_+_, _-_, _≤_}
 use native.Mathlib.Omega.{arith}
-use lib.ListN.{length}
 use Rattle.std.specs.Of.Vec.{vec-items}
 use Rattle.std.specs.Orderings.{Decides}
 use Rattle.std.proofs.shelf.Tests.{eq-eqb, ne-eqb}
 use Rattle.std.proofs.shelf.Lists.{getD-read}
 use Rattle.rules.specs.Op.{is-begin, is-end}
-use Rattle.rules.specs.Program.{no-line, line-at, total, main-module, module-first, module-end}
+use Rattle.rules.specs.Program.{no-line, line-at, main-module, module-first, module-end}
 use Rattle.image.specs.Held.{meant}
 use Rattle.theory.proofs.Text.{first-end, end-within}
 use Rattle.text.proofs.Shape.{shaped}
