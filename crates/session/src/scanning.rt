@@ -19,7 +19,11 @@ use verdict::accepted::Accepted;
 fn phase_after_preparing(whole: bool) -> Phase
     ensures { λ r. ⌜ r ≡ after-preparing whole ⌝ }
 {
-    if whole { Phase::Moving } else { Phase::Preparing }
+    if whole {
+        Phase::Moving
+    } else {
+        Phase::Preparing
+    }
 }
 
 /// The phase after a pass of BLOCK_DONE.
@@ -72,7 +76,12 @@ pub(crate) fn send_outputs<C: Cabinet>(cabinet: &mut C, memory: &Memory)
 }
 
 /// Reads the inputs and runs INPUT, the block part and MAIN.
-pub(crate) fn scan_memory<C: Cabinet>(program: &Accepted, cabinet: &C, memory: &mut Memory, phase: Phase) -> ScanAnswer
+pub(crate) fn scan_memory<C: Cabinet>(
+    program: &Accepted,
+    cabinet: &C,
+    memory: &mut Memory,
+    phase: Phase,
+) -> ScanAnswer
     requires { ⌜ Fitting (program-of (now program)) (memory-of (now memory)) ⌝ }
     ensures scans { λ r. ⌜ Scans (program-of (now (program .entry))) (C·Cabinet .meaning .inputs (now (cabinet .entry))) (record { memory = memory-of (now (memory .entry)); phase = phase }) (r .steps) (record { memory = memory-of (now (memory .exit)); phase = r .phase }) ⌝ }
     ensures fitting { λ _. ⌜ Fitting (program-of (now (program .entry))) (memory-of (now (memory .exit))) ⌝ }

@@ -371,7 +371,7 @@ module _ (image : List ℕ) (small : Bytes image) (sound : Image-sound image) wh
       let p = program-of image in
       let q : 2 + count image data-section ≡ count-place image mechanism-section = omega arith in
       let b : p .initial ++ drop (count-place image mechanism-section) image ≡ drop 2 image =
-            ap (λ (n : ℕ). p .initial ++ drop n image) (sym q) ∙ ap (λ (ys : List ℕ). p .initial ++ ys) (sym (drop-drop (count image data-section) 2 image)) ∙ take-append-drop (count image data-section) (drop 2 image) in
+      ap (λ (n : ℕ). p .initial ++ drop n image) (sym q) ∙ ap (λ (ys : List ℕ). p .initial ++ ys) (sym (drop-drop (count image data-section) 2 image)) ∙ take-append-drop (count image data-section) (drop 2 image) in
       ap (λ (ys : List ℕ). two-bytes (length (p .initial)) ++ (p .initial ++ (two-bytes (length (p .activation)) ++ (pairs-bytes (p .activation) ++ (two-bytes (length (p .lengths)) ++ (pairs-bytes (p .lengths) ++ (two-bytes (length (p .lines)) ++ ys))))))) lines-part
       ∙ ap (λ (ys : List ℕ). two-bytes (length (p .initial)) ++ (p .initial ++ (two-bytes (length (p .activation)) ++ (pairs-bytes (p .activation) ++ (two-bytes (length (p .lengths)) ++ (pairs-bytes (p .lengths) ++ ys)))))) (count-again line-section)
       ∙ ap (λ (ys : List ℕ). two-bytes (length (p .initial)) ++ (p .initial ++ (two-bytes (length (p .activation)) ++ (pairs-bytes (p .activation) ++ (two-bytes (length (p .lengths)) ++ ys))))) (pairs-again image small (count image module-section) (section-place image module-section) (section-held module-section))

@@ -36,9 +36,10 @@ finds-same f g (Some a) x = (f a (x .0), λ k e b. x .1 k e (g k b))
 module _ (p : Program) where
   at-nth : (n l : ℕ) (a : Bad-among p (n + 1) l) → Bad-among p n l ⊎ (Real p (nth-unit n) × Bad-in p (nth-unit n) l)
   at-nth n l a = elim (cases-order (a .nth) n) [
-      inl e ↦ inr (subst (λ (i : ℕ). Real p (nth-unit i)) e (a .real), subst (λ (i : ℕ). Bad-in p (nth-unit i) l) e (a .bad))
-      | inr (inl h) ↦ inl (record { nth = a .nth; before = h; real = a .real; bad = a .bad })
-      | inr (inr h) ↦ absurd (let b = a .before in omega arith) ]
+    | inl e ↦ inr (subst (λ (i : ℕ). Real p (nth-unit i)) e (a .real), subst (λ (i : ℕ). Bad-in p (nth-unit i) l) e (a .bad))
+    | inr (inl h) ↦ inl (record { nth = a .nth; before = h; real = a .real; bad = a .bad })
+    | inr (inr h) ↦ absurd (let b = a .before in omega arith)
+  ]
 
   wider : (n l : ℕ) → Bad-among p n l → Bad-among p (n + 1) l
   wider n l a = record { nth = a .nth; before = (let b = a .before in omega arith); real = a .real; bad = a .bad }

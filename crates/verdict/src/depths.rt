@@ -89,7 +89,10 @@ fn is_bad_end(unit: &UnitText<'_>, table: &Vec<Option<(u32, (i32, i32))>>) -> bo
 }
 
 /// The first line of a unit, or its end, to which routes come with depths that differ or do not serve.
-pub(crate) fn first_bad_depth(unit: &UnitText<'_>, heap: Global) -> Result<Option<usize>, AllocError>
+pub(crate) fn first_bad_depth(
+    unit: &UnitText<'_>,
+    heap: Global,
+) -> Result<Option<usize>, AllocError>
     ensures { λ r. ⌜ made r (λ o. Finds (Bad-in (program-of (now (unit .entry))) (now (unit .entry) .id)) o) ⌝ }
 {
     let table = survey(unit, &[], heap)?;

@@ -12,7 +12,11 @@ use text::formed::Formed;
 use walk::units::unit_text;
 
 /// Whether a route of a module comes to its end and leaves a mechanism uninitialised.
-pub(crate) fn leaves_uninitialised(formed: &Formed, module: usize, heap: Global) -> Result<bool, AllocError>
+pub(crate) fn leaves_uninitialised(
+    formed: &Formed,
+    module: usize,
+    heap: Global,
+) -> Result<bool, AllocError>
     requires { ⌜ «module» < 7 ⌝ }
     ensures { λ r. ⌜ made r (λ b. Tells-uninitialised (meant (now (formed .entry) .program)) «module» b) ⌝ }
 {

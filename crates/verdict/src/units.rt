@@ -17,7 +17,11 @@ use walk::units::unit_text;
 fn unit_at(i: usize) -> UnitId
     ensures { λ r. ⌜ r ≡ nth-unit i ⌝ }
 {
-    if i < 7 { UnitId::Module(i) } else { UnitId::Mechanism(i - 7) }
+    if i < 7 {
+        UnitId::Module(i)
+    } else {
+        UnitId::Mechanism(i - 7)
+    }
 }
 
 /// The earlier of two places.
@@ -32,7 +36,12 @@ fn earlier(a: Option<usize>, b: Option<usize>) -> Option<usize>
 }
 
 /// Takes the bad places of one unit more into the first bad place so far.
-fn with_unit(formed: &Formed, i: usize, first: Option<usize>, heap: Global) -> Result<Option<usize>, AllocError>
+fn with_unit(
+    formed: &Formed,
+    i: usize,
+    first: Option<usize>,
+    heap: Global,
+) -> Result<Option<usize>, AllocError>
     requires { ⌜ Finds (Bad-among (meant (now formed .program)) i) first ⌝ }
     ensures { λ r. ⌜ made r (λ o. Finds (Bad-among (meant (now (formed .entry) .program)) (i + 1)) o) ⌝ }
 {

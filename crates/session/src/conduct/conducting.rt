@@ -24,7 +24,11 @@ use std::alloc::Global;
 use verdict::accepted::Accepted;
 
 /// The certificate of a program, and an empty transcript with room for so many calls and a halt.
-fn prepared(program: &Accepted, calls: usize, heap: Global) -> Result<(Certificate, Vec<(Call, Answer)>), AllocError>
+fn prepared(
+    program: &Accepted,
+    calls: usize,
+    heap: Global,
+) -> Result<(Certificate, Vec<(Call, Answer)>), AllocError>
     ensures { λ r. ⌜ made r (λ q. Certified (program-of (now (program .entry))) (q .0 .lines) (q .0 .stack) (q .0 .scan) × (vec-items (q .1) ≡ []) × (vec-len (q .1) ≡ 0) × (calls < vec-cap (q .1))) ⌝ }
 {
     let Some(most) = calls.checked_add(1) else {
@@ -41,7 +45,14 @@ fn prepared(program: &Accepted, calls: usize, heap: Global) -> Result<(Certifica
 /// What is promised, for every accepted program, every cabinet and every list of calls: the certificate is the program's; the session is one
 /// by the rules, with exactly these answers, data, points, phase and terminals; and after the start and after each call all holds that a
 /// certificate guarantees.
-pub fn conduct<C: Cabinet, O: Observer>(program: &Accepted, cabinet: C, calls: &[SessionCall], halts: bool, observer: &mut O, heap: Global) -> Result<Conducted<C>, (C, AllocError)>
+pub fn conduct<C: Cabinet, O: Observer>(
+    program: &Accepted,
+    cabinet: C,
+    calls: &[SessionCall],
+    halts: bool,
+    observer: &mut O,
+    heap: Global,
+) -> Result<Conducted<C>, (C, AllocError)>
     ensures { λ r. ⌜ Cases r (λ t. Promised (C·Cabinet .meaning) (program-of (now (program .entry))) cabinet (now (calls .entry)) halts t) (λ e. e .0 ≡ cabinet) ⌝ }
 {
     let (certificate, mut transcript) = match prepared(program, calls.len(), heap) {
@@ -60,7 +71,9 @@ pub fn conduct<C: Cabinet, O: Observer>(program: &Accepted, cabinet: C, calls: &
     }
     if halts {
         let halted = running.halt();
-        let answer = Answer::Done { phase: halted.phase };
+        let answer = Answer::Done {
+            phase: halted.phase,
+        };
         halted.show(observer, answer);
         transcript.push_reserved((Call::Halt, answer));
         let Halted {

@@ -20,8 +20,8 @@ use crate::scanning::send_outputs;
 use cabinet::Cabinet;
 use cabinet::ports::terminals;
 use lines::bits::bit_at;
-use machine::memory::Memory;
 use machine::fresh::fresh;
+use machine::memory::Memory;
 use machine::pass::pass;
 use rules::refusal::Rule;
 use rules::session::Answer;
@@ -33,7 +33,11 @@ use verdict::accepted::Accepted;
 
 /// Starts a program on a cabinet: the memory is fresh and the phase 0, INIT is run, and the outputs are sent.
 /// Where memory is wanting, the cabinet comes back as it was.
-pub fn start<'p, C: Cabinet>(program: &'p Accepted, mut cabinet: C, heap: Global) -> Result<Running<'p, C>, (C, AllocError)>
+pub fn start<'p, C: Cabinet>(
+    program: &'p Accepted,
+    mut cabinet: C,
+    heap: Global,
+) -> Result<Running<'p, C>, (C, AllocError)>
     ensures { λ r. ⌜ Cases r (λ t. Started (C·Cabinet .meaning) (program-of (now (program .entry))) cabinet t) (λ e. e .0 ≡ cabinet) ⌝ }
 {
     match fresh(program, heap) {
@@ -64,7 +68,11 @@ fn phase_after_report(memory: &Memory) -> Phase
     requires { ⌜ 17 ≤ vec-len (now memory .bytes) ⌝ }
     ensures { λ r. ⌜ r ≡ after-report (zav-fce (memory-of (now (memory .entry)))) ⌝ }
 {
-    if bit_at(&memory.bytes, 128) { Phase::Closing } else { Phase::Idle }
+    if bit_at(&memory.bytes, 128) {
+        Phase::Closing
+    } else {
+        Phase::Idle
+    }
 }
 
 impl<C: Cabinet> Running<'_, C> {
@@ -194,6 +202,11 @@ impl<C: Cabinet> Running<'_, C> {
 impl<C: Cabinet> Halted<C> {
     /// Tells an observer of the halt, and what it answered.
     pub fn show<O: Observer>(&self, observer: &mut O, answer: Answer) {
-        observer.note(Some(Call::Halt), answer, &self.memory, terminals(&self.cabinet));
+        observer.note(
+            Some(Call::Halt),
+            answer,
+            &self.memory,
+            terminals(&self.cabinet),
+        );
     }
 }

@@ -50,12 +50,12 @@ returns-in-Over c =
           (config-of (c .enter-unit-place .result) (c .enter-unit-place .last .registers) (c .enter-unit-place .last .memory)) (c .enter-unit-place .ensures)
           (c .loop-place .steps) (c .loop-place .place) (c .in-Over .whole) (c .loop-place .registers) (c .loop-place .memory) (c .in-Over .is) (c .loop-place .inv);
       fitting = fitting-after (c .args .program .now) (c .args .module) (c .pre .named) (memory-of (c .args .memory .now)) (c .pre .fitting)
-      (config-of (c .enter-unit-place .result) (c .enter-unit-place .last .registers) (c .enter-unit-place .last .memory)) (c .enter-unit-place .ensures)
-      (c .loop-place .steps) (c .loop-place .place) (c .in-Over .whole) (c .loop-place .registers) (c .loop-place .memory) (c .in-Over .is) (c .loop-place .inv);
+          (config-of (c .enter-unit-place .result) (c .enter-unit-place .last .registers) (c .enter-unit-place .last .memory)) (c .enter-unit-place .ensures)
+          (c .loop-place .steps) (c .loop-place .place) (c .in-Over .whole) (c .loop-place .registers) (c .loop-place .memory) (c .in-Over .is) (c .loop-place .inv);
       bounded = (let n = within-lines (c .args .program .now) (c .args .module) (c .pre .named) (memory-of (c .args .memory .now)) (c .pre .fitting)
-      (config-of (c .enter-unit-place .result) (c .enter-unit-place .last .registers) (c .enter-unit-place .last .memory)) (c .enter-unit-place .ensures)
-      (c .loop-place .steps) (config-of (c .loop-place .place) (c .loop-place .registers) (c .loop-place .memory)) (c .loop-place .inv) in
-      omega (arith, n, c .args .program .now .formed .program .lines .ok .0));
+          (config-of (c .enter-unit-place .result) (c .enter-unit-place .last .registers) (c .enter-unit-place .last .memory)) (c .enter-unit-place .ensures)
+          (c .loop-place .steps) (config-of (c .loop-place .place) (c .loop-place .registers) (c .loop-place .memory)) (c .loop-place .inv) in
+          omega (arith, n, c .args .program .now .formed .program .lines .ok .0));
       whole = whole-after (c .args .program .now) (c .args .module) (c .pre .named) (memory-of (c .args .memory .now)) (c .pre .fitting)
           (config-of (c .enter-unit-place .result) (c .enter-unit-place .last .registers) (c .enter-unit-place .last .memory)) (c .enter-unit-place .ensures)
           (c .loop-place .steps) (c .loop-place .place) (c .in-Over .whole) (c .loop-place .registers) (c .loop-place .memory) (c .in-Over .is) (c .loop-place .inv);

@@ -41,6 +41,7 @@ returns c =
     let t = vec-items (c .in-Continue-table .table) in
     let s = c .in-Continue-table .ensures tt in
     λ k. elim (cases-order k (u .end)) [
-      inl e ↦ (λ b. not-so false (c .if-is-bad-end .ensures tt) refl (subst (Bad-in (program-of u) (u .id)) e b))
-    | inr (inl l) ↦ c .loop-l .inv k (let x = c .loop-l-test .left in omega arith)
-    | inr (inr g) ↦ high u t s k g ]
+      | inl e ↦ (λ b. not-so false (c .if-is-bad-end .ensures tt) refl (subst (Bad-in (program-of u) (u .id)) e b))
+      | inr (inl l) ↦ c .loop-l .inv k (let x = c .loop-l-test .left in omega arith)
+      | inr (inr g) ↦ high u t s k g
+    ]

@@ -50,10 +50,15 @@ returns-else-low-ne0 c =
     let e = u .«end_is» in
     let zero : c .in-Some .low ≡ pos 0 = omega (arith, ints) in
     elim (same-depth (c .in-Some .high) (pos 0)) [
-      inl z ↦ (λ h. absurd (let f : eqb (ofZ w32 (c .in-Some .high)) 0 ≡ true = ap (λ (x : ℤ). eqb (ofZ w32 x) 0) z in both-ways (eqb (ofZ w32 (c .in-Some .high)) 0) (not-true (eqb (ofZ w32 (c .in-Some .high)) 0) h) f),
-               λ b. absurd (level-end (program-of u) (u .id) (unit-sound u) (c .in-Some .low) (c .in-Some .high) zero z (subst (λ (l : ℕ). Misfits (program-of u) (u .id) l (c .in-Some .low) (c .in-Some .high)) e (bad-to (program-of u) (u .id) (u .end) (c .in-Some .low) (c .in-Some .high) d b))))
-    | inr n ↦ (λ h. bad-from (program-of u) (u .id) (u .end) (c .in-Some .low) (c .in-Some .high) d (subst (λ (l : ℕ). Misfits (program-of u) (u .id) l (c .in-Some .low) (c .in-Some .high)) (sym e) (high-end (program-of u) (u .id) (unit-sound u) (c .in-Some .low) (c .in-Some .high) n)),
-               λ b. search needs) ]
+      | inl z ↦ (
+        λ h. absurd (let f : eqb (ofZ w32 (c .in-Some .high)) 0 ≡ true = ap (λ (x : ℤ). eqb (ofZ w32 x) 0) z in both-ways (eqb (ofZ w32 (c .in-Some .high)) 0) (not-true (eqb (ofZ w32 (c .in-Some .high)) 0) h) f),
+        λ b. absurd (level-end (program-of u) (u .id) (unit-sound u) (c .in-Some .low) (c .in-Some .high) zero z (subst (λ (l : ℕ). Misfits (program-of u) (u .id) l (c .in-Some .low) (c .in-Some .high)) e (bad-to (program-of u) (u .id) (u .end) (c .in-Some .low) (c .in-Some .high) d b))),
+      )
+      | inr n ↦ (
+        λ h. bad-from (program-of u) (u .id) (u .end) (c .in-Some .low) (c .in-Some .high) d (subst (λ (l : ℕ). Misfits (program-of u) (u .id) l (c .in-Some .low) (c .in-Some .high)) (sym e) (high-end (program-of u) (u .id) (unit-sound u) (c .in-Some .low) (c .in-Some .high) n)),
+        λ b. search needs,
+      )
+    ]
 
 pub returns-in-None : need.returns-in-None
 returns-in-None c =
