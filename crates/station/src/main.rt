@@ -13,6 +13,7 @@ mod reading;
 mod refusals;
 mod rows;
 mod sections;
+mod surveys;
 
 use arguments::Command;
 use arguments::command_of;
