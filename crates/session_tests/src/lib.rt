@@ -17,17 +17,147 @@ mod tests {
 
     // The gate program: one mechanism that opens a gate, waits, and shuts it.
     const GATE: [u8; 86] = [
-        18, 0, 0, 0, 0, 0, 0, 0, 0, 0, 0, 0, 0, 0, 0, 0, 0, 0, 0, 0, 1, 0,
-        136, 0, 7, 0, 0, 0, 0, 0, 0, 0, 9, 0, 1, 0, 1, 0, 0, 0, 11, 0, 1, 0,
-        0, 0, 8, 1, 136, 0, 22, 0, 0, 0, 7, 1, 64, 0, 11, 0, 0, 0, 1, 0, 1, 0,
-        12, 0, 0, 0, 7, 0, 64, 0, 23, 0, 0, 0, 24, 0, 0, 0, 24, 0, 0, 0,
+        18,
+        0,
+        0,
+        0,
+        0,
+        0,
+        0,
+        0,
+        0,
+        0,
+        0,
+        0,
+        0,
+        0,
+        0,
+        0,
+        0,
+        0,
+        0,
+        0,
+        1,
+        0,
+        136,
+        0,
+        7,
+        0,
+        0,
+        0,
+        0,
+        0,
+        0,
+        0,
+        9,
+        0,
+        1,
+        0,
+        1,
+        0,
+        0,
+        0,
+        11,
+        0,
+        1,
+        0,
+        0,
+        0,
+        8,
+        1,
+        136,
+        0,
+        22,
+        0,
+        0,
+        0,
+        7,
+        1,
+        64,
+        0,
+        11,
+        0,
+        0,
+        0,
+        1,
+        0,
+        1,
+        0,
+        12,
+        0,
+        0,
+        0,
+        7,
+        0,
+        64,
+        0,
+        23,
+        0,
+        0,
+        0,
+        24,
+        0,
+        0,
+        0,
+        24,
+        0,
+        0,
+        0,
     ];
 
     // BLOCK_INIT is FL 1,128 and EX; BLOCK_DONE is FL 0,128.
     const BLOCK: [u8; 51] = [
-        17, 0, 0, 0, 0, 0, 0, 0, 0, 0, 0, 0, 0, 0, 0, 0, 0, 0, 0, 0, 0, 7,
-        0, 0, 0, 2, 0, 1, 0, 0, 0, 0, 0, 0, 0, 0, 0, 3, 0, 7, 1, 128, 0, 11,
-        0, 0, 0, 7, 0, 128, 0,
+        17,
+        0,
+        0,
+        0,
+        0,
+        0,
+        0,
+        0,
+        0,
+        0,
+        0,
+        0,
+        0,
+        0,
+        0,
+        0,
+        0,
+        0,
+        0,
+        0,
+        0,
+        7,
+        0,
+        0,
+        0,
+        2,
+        0,
+        1,
+        0,
+        0,
+        0,
+        0,
+        0,
+        0,
+        0,
+        0,
+        0,
+        3,
+        0,
+        7,
+        1,
+        128,
+        0,
+        11,
+        0,
+        0,
+        0,
+        7,
+        0,
+        128,
+        0,
     ];
 
     // Keeps, of each call and of the start, what terminal 0 shows, the steps, the rule's number and the phase, in a row of numbers.
@@ -37,7 +167,13 @@ mod tests {
     }
 
     impl Observer for Notes as NotesObserver {
-        fn note(&mut self, _call: Option<Call>, answer: Answer, _memory: &Memory, terminals: [u8; 8]) {
+        fn note(
+            &mut self,
+            _call: Option<Call>,
+            answer: Answer,
+            _memory: &Memory,
+            terminals: [u8; 8],
+        ) {
             let (steps, rule, phase) = match answer {
                 Answer::Scanned { steps, phase } => (steps, 0, phase),
                 Answer::Done { phase } => (0, 0, phase),
@@ -58,11 +194,28 @@ mod tests {
             return Err(Fail::new("refused"));
         };
         let mut rows = Vec::new(heap);
-        let _ = rows.push(Row { scan: 0, port: 0, byte: 1 });
-        let _ = rows.push(Row { scan: 2, port: 0, byte: 2 });
+        let _ = rows.push(Row {
+            scan: 0,
+            port: 0,
+            byte: 1,
+        });
+        let _ = rows.push(Row {
+            scan: 2,
+            port: 0,
+            byte: 2,
+        });
         let calls = [SessionCall::Scan, SessionCall::Scan, SessionCall::Scan];
-        let mut notes = Notes { seen: Vec::new(heap) };
-        let done = conduct(&program, Stimulus::new(rows), &calls, true, &mut notes, heap);
+        let mut notes = Notes {
+            seen: Vec::new(heap),
+        };
+        let done = conduct(
+            &program,
+            Stimulus::new(rows),
+            &calls,
+            true,
+            &mut notes,
+            heap,
+        );
         check(done.is_ok())?;
         let expected = [0, 0, 0, 0, 1, 5, 0, 0, 1, 5, 0, 0, 0, 7, 0, 0, 0, 0, 0, 0];
         check(notes.seen.as_slice() == &expected)
@@ -86,11 +239,56 @@ mod tests {
             SessionCall::BlockStart,
             SessionCall::Clear,
         ];
-        let mut notes = Notes { seen: Vec::new(heap) };
+        let mut notes = Notes {
+            seen: Vec::new(heap),
+        };
         let done = conduct(&program, Patch::new(), &calls, true, &mut notes, heap);
         check(done.is_ok())?;
         let expected = [
-            0, 0, 0, 0, 0, 0, 21, 0, 0, 0, 0, 1, 0, 0, 20, 1, 0, 2, 0, 1, 0, 0, 0, 2, 0, 0, 0, 3, 0, 1, 0, 0, 0, 0, 0, 1, 0, 0, 0, 0, 0, 0, 0, 0,
+            0,
+            0,
+            0,
+            0,
+            0,
+            0,
+            21,
+            0,
+            0,
+            0,
+            0,
+            1,
+            0,
+            0,
+            20,
+            1,
+            0,
+            2,
+            0,
+            1,
+            0,
+            0,
+            0,
+            2,
+            0,
+            0,
+            0,
+            3,
+            0,
+            1,
+            0,
+            0,
+            0,
+            0,
+            0,
+            1,
+            0,
+            0,
+            0,
+            0,
+            0,
+            0,
+            0,
+            0,
         ];
         check(notes.seen.as_slice() == &expected)
     }
@@ -103,7 +301,13 @@ mod tests {
     }
 
     impl Observer for Counts as CountsObserver {
-        fn note(&mut self, _call: Option<Call>, answer: Answer, _memory: &Memory, _terminals: [u8; 8]) {
+        fn note(
+            &mut self,
+            _call: Option<Call>,
+            answer: Answer,
+            _memory: &Memory,
+            _terminals: [u8; 8],
+        ) {
             self.calls = self.calls.saturating_add(1);
             if let Answer::Scanned { steps, phase: _ } = answer {
                 self.steps = self.steps.saturating_add(u64::from(steps));
@@ -123,7 +327,14 @@ mod tests {
             let _ = calls.push(SessionCall::Scan);
         }
         let mut counts = Counts { calls: 0, steps: 0 };
-        let done = conduct(&program, Patch::new(), calls.as_slice(), false, &mut counts, heap);
+        let done = conduct(
+            &program,
+            Patch::new(),
+            calls.as_slice(),
+            false,
+            &mut counts,
+            heap,
+        );
         check(done.is_ok())?;
         check(counts.calls == 1000001)?;
         check(counts.steps == 3000000)

@@ -23,12 +23,14 @@ use verdict::place::accept;
 
 /// Writes what is known of a line: the depth, the greatest number of steps with which a route comes there, and a star on a longest scan.
 fn write_survey<W: Write>(out: &mut W, survey: Option<Survey>) -> io::Result<()> {
-    let Some(Survey {
-        steps,
-        low,
-        high,
-        longest,
-    }) = survey
+    let Some(
+        Survey {
+            steps,
+            low,
+            high,
+            longest,
+        },
+    ) = survey
     else {
         return write!(out, "    -     -  ");
     };
@@ -42,8 +44,15 @@ fn write_survey<W: Write>(out: &mut W, survey: Option<Survey>) -> io::Result<()>
 }
 
 /// Writes each line of a formed program: its number, its unit, the text flag at it, what its routes bring, and the line.
-fn write_text<W: Write>(out: &mut W, formed: &Formed, surveys: &[Option<Survey>]) -> io::Result<()> {
-    writeln!(out, "text: line, unit, text flag, depth, greatest steps before it, * on a longest scan, instruction")?;
+fn write_text<W: Write>(
+    out: &mut W,
+    formed: &Formed,
+    surveys: &[Option<Survey>],
+) -> io::Result<()> {
+    writeln!(
+        out,
+        "text: line, unit, text flag, depth, greatest steps before it, * on a longest scan, instruction"
+    )?;
     for (number, survey) in surveys.iter().enumerate() {
         let (Some(unit), Some(flag), Some(line)) = (
             formed.unit_of(number),
@@ -106,7 +115,12 @@ pub(crate) fn inspect(rt: &LibcRuntime, file: String) -> Result<(), Failure> {
 }
 
 /// Writes the text of a formed program with what its routes bring; answers the refusal that its image earns, if it earns one.
-fn show_formed<W: Write>(heap: Global, out: &mut W, formed: &Formed, image: &[u8]) -> Result<Option<Refusal>, Failure> {
+fn show_formed<W: Write>(
+    heap: Global,
+    out: &mut W,
+    formed: &Formed,
+    image: &[u8],
+) -> Result<Option<Refusal>, Failure> {
     let mut surveys = survey_all(heap, formed)?;
     let refusal = match accept(heap, image) {
         Ok(program) => {

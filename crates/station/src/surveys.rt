@@ -29,7 +29,13 @@ fn blank(heap: Global, lines: usize) -> Result<Vec<Option<Survey>>, AllocError> 
 }
 
 /// Takes in what is known of the lines of one unit.
-fn take_in(heap: Global, formed: &Formed, id: UnitId, bounds: &[u32], surveys: &mut Vec<Option<Survey>>) -> Result<(), AllocError> {
+fn take_in(
+    heap: Global,
+    formed: &Formed,
+    id: UnitId,
+    bounds: &[u32],
+    surveys: &mut Vec<Option<Survey>>,
+) -> Result<(), AllocError> {
     let Some(unit) = unit_text(formed, id) else {
         return Ok(());
     };
@@ -56,10 +62,22 @@ pub(crate) fn survey_all(heap: Global, formed: &Formed) -> Result<Vec<Option<Sur
     let bounds = mechanism_bounds(formed, heap)?;
     let mut surveys = blank(heap, formed.program.lines.len())?;
     for module in 0..7usize {
-        take_in(heap, formed, UnitId::Module(module), bounds.as_slice(), &mut surveys)?;
+        take_in(
+            heap,
+            formed,
+            UnitId::Module(module),
+            bounds.as_slice(),
+            &mut surveys,
+        )?;
     }
     for mechanism in 0..formed.program.activation.len() {
-        take_in(heap, formed, UnitId::Mechanism(mechanism), bounds.as_slice(), &mut surveys)?;
+        take_in(
+            heap,
+            formed,
+            UnitId::Mechanism(mechanism),
+            bounds.as_slice(),
+            &mut surveys,
+        )?;
     }
     Ok(surveys)
 }
@@ -74,7 +92,11 @@ fn mark(route: &[usize], surveys: &mut Vec<Option<Survey>>) {
 }
 
 /// Marks the routes of one longest scan.
-pub(crate) fn mark_longest(heap: Global, program: &Accepted, surveys: &mut Vec<Option<Survey>>) -> Result<(), AllocError> {
+pub(crate) fn mark_longest(
+    heap: Global,
+    program: &Accepted,
+    surveys: &mut Vec<Option<Survey>>,
+) -> Result<(), AllocError> {
     let longest = longest_scan(program, heap)?;
     mark(longest.input.as_slice(), surveys);
     mark(longest.block.as_slice(), surveys);

@@ -194,14 +194,14 @@ impl<C: Cabinet> Running<'_, C> {
     }
 
     /// Tells an observer of the start, or of a call that was made, and what it answered.
-    pub fn show<O: Observer>(&self, observer: &mut O, call: Option<Call>, answer: Answer) {
+    pub(crate) fn show<O: Observer>(&self, observer: &mut O, call: Option<Call>, answer: Answer) {
         observer.note(call, answer, &self.memory, terminals(&self.cabinet));
     }
 }
 
 impl<C: Cabinet> Halted<C> {
     /// Tells an observer of the halt, and what it answered.
-    pub fn show<O: Observer>(&self, observer: &mut O, answer: Answer) {
+    pub(crate) fn show<O: Observer>(&self, observer: &mut O, answer: Answer) {
         observer.note(
             Some(Call::Halt),
             answer,
