@@ -104,14 +104,21 @@ fn main() -> ExitCode {
     }
 }
 
-/// What is printed when no case differs.
+/// What is said of a case that was compared with the station, or only checked by itself.
+const VERDICT: &str = if cfg!(feature = "station") {
+    "0 differ"
+} else {
+    "not compared, 0 break a check"
+};
+
+/// What is printed when no case fails.
 fn summary(options: &Options, stats: &Stats) -> String {
     let covered = if options.stats {
         stats.to_string()
     } else {
         String::new()
     };
-    format!("{covered}{} cases, 0 differ", options.cases)
+    format!("{covered}{} cases, {VERDICT}", options.cases)
 }
 
 /// Runs all cases up to the first that differs.
