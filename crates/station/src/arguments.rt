@@ -26,6 +26,8 @@ pub(crate) struct Request {
 pub(crate) enum Command {
     Help,
     Certify(String),
+    /// an image, and the file for the page
+    CertifyOnPage(String, String),
     Inspect(String),
     Run(Request),
 }
@@ -108,6 +110,24 @@ fn file_of(mut args: Args) -> Result<String, Failure> {
     }
 }
 
+/// The certifying that the arguments after `certify` ask for.
+fn certifying(mut args: Args) -> Result<Command, Failure> {
+    let Some(image) = args.next() else {
+        return Err(Failure::Usage("an image has to be named"));
+    };
+    let Some(option) = args.next() else {
+        return Ok(Command::Certify(image));
+    };
+    if option.as_str() != "--html" {
+        return Err(Failure::Wrong(option, "unknown option"));
+    }
+    match (args.next(), args.next()) {
+        (Some(page), None) => Ok(Command::CertifyOnPage(image, page)),
+        (None, _) => Err(Failure::Usage("a file for the page has to follow --html")),
+        (_, Some(word)) => Err(Failure::Wrong(word, "one argument too many")),
+    }
+}
+
 /// The command of the arguments, the first of which is the program's own name.
 pub(crate) fn command_of(mut args: Args) -> Result<Command, Failure> {
     let _ = args.next();
@@ -115,7 +135,7 @@ pub(crate) fn command_of(mut args: Args) -> Result<Command, Failure> {
         return Err(Failure::Usage("nothing is asked for"));
     };
     match verb.as_str() {
-        "certify" => Ok(Command::Certify(file_of(args)?)),
+        "certify" => certifying(args),
         "inspect" => Ok(Command::Inspect(file_of(args)?)),
         "run" => Ok(Command::Run(request_of(args)?)),
         "help" => match args.next() {

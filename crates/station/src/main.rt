@@ -8,6 +8,7 @@ mod files;
 mod inspect;
 mod listing;
 mod loading;
+mod page;
 mod printer;
 mod reading;
 mod refusals;
@@ -22,7 +23,9 @@ use failure::FailureFromAlloc;
 use failure::FailureFromIo;
 use std::env;
 
-const HELP: &str = "station certify IMAGE   the verdict on a program, with its certificate
+const HELP: &str = "station certify IMAGE [--html PAGE]
+                        the verdict on a program, with its certificate; an accepted
+                        one's is also written to the file PAGE, for a browser
 station run IMAGE CALLS (--rows ROWS | --patch) [--state] [--quiet]
                         a session: the calls of a file, on a cabinet
 station inspect IMAGE   the sections of an image, and its text line by line
@@ -45,6 +48,7 @@ fn run(rt: &LibcRuntime) -> Result<(), Failure> {
             Ok(())
         }
         Command::Certify(image) => certify::certify(rt, image),
+        Command::CertifyOnPage(image, page) => certify::certify_on_page(rt, image, page),
         Command::Inspect(image) => inspect::inspect(rt, image),
         Command::Run(request) => conduct::run_session(rt, request),
     }
