@@ -1,4 +1,7 @@
 // The cabinet: eight input bytes and eight terminal bytes, and what each call does to them.
+
+#![tactic(auto)]
+
 ghost use Rattle.std.specs.Prelude.{◌≡◌, ◌<◌};
 ghost use Rattle.rules.specs.Cabinet.{Meaning, Lawful, Sent, Advanced};
 ghost use Rattle.cabinet.specs.Ports.{answer_read, answer_write, written};

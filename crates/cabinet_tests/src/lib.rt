@@ -1,5 +1,7 @@
 // The cabinets at work, by tables.
 
+#![tactic(auto)]
+
 #[cfg(test)]
 mod tests {
     use cabinet::Cabinet;

@@ -1,4 +1,7 @@
 // The certificate of an accepted program.
+
+#![tactic(auto)]
+
 pub mod bounds;
 pub mod contents;
 pub mod issue;

@@ -1,4 +1,7 @@
 // Verdicts and certificates of small programs, from their images.
+
+#![tactic(auto)]
+
 #[cfg(test)]
 mod tests {
     use certificate::issue::certificate;

@@ -1,5 +1,7 @@
 // Images at the edges of the rules, read and refused.
 
+#![tactic(auto)]
+
 #[cfg(test)]
 mod tests {
     use image::reading::read_image;

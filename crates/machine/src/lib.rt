@@ -1,4 +1,7 @@
 // The memory of a started program, and the passes of its modules.
+
+#![tactic(auto)]
+
 pub mod fresh;
 pub mod memory;
 mod moves;

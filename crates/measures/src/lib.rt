@@ -1,4 +1,7 @@
 // The measures of routes: steps, depth, initialised mechanisms, and two carried together.
+
+#![tactic(auto)]
+
 pub mod both;
 pub mod depth;
 pub mod initialised;

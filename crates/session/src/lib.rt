@@ -1,4 +1,7 @@
 // Sessions of an accepted program over any cabinet.
+
+#![tactic(auto)]
+
 pub mod answer;
 pub mod call;
 pub mod conduct;

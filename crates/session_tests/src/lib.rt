@@ -1,4 +1,7 @@
 // Sessions of small programs, from their images to their transcripts.
+
+#![tactic(auto)]
+
 #[cfg(test)]
 mod tests {
     use cabinet::patch::Patch;

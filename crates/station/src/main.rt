@@ -1,4 +1,7 @@
 // The station: reads its arguments and does what they ask.
+
+#![tactic(auto)]
+
 mod arguments;
 mod calls;
 mod certify;

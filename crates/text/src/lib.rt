@@ -1,4 +1,7 @@
 // The text of a program, checked line by line.
+
+#![tactic(auto)]
+
 pub mod fault;
 pub mod formed;
 pub mod forming;

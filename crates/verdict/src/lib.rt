@@ -1,4 +1,7 @@
 // The verdict on a program: whether it is accepted, and the place for an accepted one.
+
+#![tactic(auto)]
+
 pub mod accepted;
 mod depths;
 pub mod fault;

@@ -1,4 +1,7 @@
 // Measures of routes, and the walk that finds them at each line of a unit.
+
+#![tactic(auto)]
+
 pub mod lines;
 pub mod measure;
 pub mod table;
