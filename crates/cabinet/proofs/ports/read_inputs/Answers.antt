@@ -6,7 +6,7 @@ pub loop-port-preserved : goal.loop-port-preserved
 loop-port-preserved g c =
     let eight = (g.met.C.Cabinet.lawful.eight_inputs c.args.cabinet.now).eight in
     let long = c.args.bytes.now.ok.0 in
-    (over-more _ _ _ _ _ _ refl (omega arith) (omega arith) c.loop-port.invariant.0 c.input-at.ensures, c.loop-port.invariant.1)
+    (over-more _ _ _ _ _ _ refl (omega arith) (omega arith) c.loop-port.invariant.0 c.input_at.ensures, c.loop-port.invariant.1)
 
 pub returns : goal.returns
 returns g c = record {

@@ -10,7 +10,7 @@ loop-port-preserved g c =
     let eight = (g.met.C.Cabinet.lawful.eight_terminals c.args.cabinet.now).eight in
     let outputs = length-outputs c.args.bytes.now (omega arith) in
     let so_far = c.loop-port.invariant in
-    let sent = c.write-at.ensures in
+    let sent = c.write_at.ensures in
     record {
       terminals-are = over-more _ _ _ _ _ _ sent.terminals-are (omega arith) (omega arith) so_far.terminals-are (get_or-outputs c.args.bytes.now _ c.loop-port-test.true);
       inputs-stay = sent.inputs-stay ∙ so_far.inputs-stay;

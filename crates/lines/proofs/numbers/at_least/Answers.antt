@@ -7,13 +7,13 @@ pub returns-in-1 : goal.returns-in-1
 returns-in-1 c =
     let m : modulus c.args.width ≡ 2 ^ 8 = ap modulus c.in-1.is in
     let h : c.args.b < 2 ^ 8 = omega (arith, c.requires.1) in
-    compared w8 c.args.width m m c.args.a c.args.b c.low8.result c.low8-in-1.result c.requires.1 (c.low8.ensures ∙ ap (λ n. c.args.a % n) (sym m)) (c.low8-in-1.ensures ∙ mod-eq_of_lt h) c.cast-signed.result c.cast-signed-in-1.result c.cast-signed.ensures c.cast-signed-in-1.ensures
+    compared w8 c.args.width m m c.args.a c.args.b c.low8.result c.low8-in-1.result c.requires.1 (c.low8.ensures ∙ ap (λ n. c.args.a % n) (sym m)) (c.low8-in-1.ensures ∙ mod-eq_of_lt h) c.cast_signed.result c.cast_signed-in-1.result c.cast_signed.ensures c.cast_signed-in-1.ensures
 
 pub returns-in-2 : goal.returns-in-2
 returns-in-2 c =
     let m : modulus c.args.width ≡ 2 ^ 16 = ap modulus c.in-2.is in
     let h : c.args.b < 2 ^ 16 = omega (arith, c.requires.1) in
-    compared w16 c.args.width m m c.args.a c.args.b c.low16.result c.low16-in-2.result c.requires.1 (c.low16.ensures ∙ ap (λ n. c.args.a % n) (sym m)) (c.low16-in-2.ensures ∙ mod-eq_of_lt h) c.cast-signed-in-2.result c.cast-signed-in-2-2.result c.cast-signed-in-2.ensures c.cast-signed-in-2-2.ensures
+    compared w16 c.args.width m m c.args.a c.args.b c.low16.result c.low16-in-2.result c.requires.1 (c.low16.ensures ∙ ap (λ n. c.args.a % n) (sym m)) (c.low16-in-2.ensures ∙ mod-eq_of_lt h) c.cast_signed-in-2.result c.cast_signed-in-2-2.result c.cast_signed-in-2.ensures c.cast_signed-in-2-2.ensures
 
 pub returns-in-default : goal.returns-in-default
 returns-in-default c =

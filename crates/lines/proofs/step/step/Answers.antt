@@ -8,7 +8,7 @@ pub returns-in-20 : goal.returns-in-20
 returns-in-20 c =
     let x = c.args.line in
     let e : decode x ≡ by_width x.mode abs = ap (λ (n : ℕ). decode (record { code = n; mode = x.mode; operand = x.operand })) c.in-20.is in
-    by-its-width c.args.flagged c.args.activation.now (registers_of c.args.registers.now) c.args.bytes.now x abs e c.requires.rule ∙ c.make-absolute.ensures
+    by-its-width c.args.flagged c.args.activation.now (registers_of c.args.registers.now) c.args.bytes.now x abs e c.requires.rule ∙ c.make_absolute.ensures
 
 pub returns-in-21 : goal.returns-in-21
 returns-in-21 c =
