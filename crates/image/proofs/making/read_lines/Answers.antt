@@ -9,7 +9,7 @@ loop-record-preserved c =
     let inv = c.loop-record.invariant in
     let four : length c.in-Some.record.now ≡ 4 = (let a = step.1.1 in let b = inv.0 in omega arith) in (
       step.0 ∙ inv.0,
-      grown _ _ _ _ _ _ c.in-ok-push.ensures.items (lines_join _ _ _ _ step.1.0 four c.pair-operand.ensures) inv.1,
+      grown _ _ _ _ _ _ c.in_ok-push.ensures.items (lines_join _ _ _ _ step.1.0 four c.pair-operand.ensures) inv.1,
     )
 
 pub returns : goal.returns

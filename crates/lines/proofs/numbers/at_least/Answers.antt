@@ -15,9 +15,9 @@ returns-in-2 c =
     let h : c.args.b < 2 ^ 16 = omega (arith, c.requires.1) in
     compared w16 c.args.width m m c.args.a c.args.b c.low16.result c.low16-in-2.result c.requires.1 (c.low16.ensures ∙ ap (λ n. c.args.a % n) (sym m)) (c.low16-in-2.ensures ∙ mod-eq_of_lt h) c.cast_signed-in-2.result c.cast_signed-in-2-2.result c.cast_signed-in-2.ensures c.cast_signed-in-2-2.ensures
 
-pub returns-in-default : goal.returns-in-default
-returns-in-default c =
+pub returns-in_default : goal.returns-in_default
+returns-in_default c =
     let four : c.args.width ≡ 4 = search rules in
     let m : modulus c.args.width ≡ 2 ^ 32 = ap modulus four in
     let h : c.args.a < 2 ^ 32 = omega arith in
-    compared w32 c.args.width m m c.args.a c.args.b c.args.a c.args.b c.requires.1 (sym (mod-eq_of_lt h) ∙ ap (λ n. c.args.a % n) (sym m)) refl c.cast-signed-in-default.result c.cast-signed-in-default-2.result c.cast-signed-in-default.ensures c.cast-signed-in-default-2.ensures
+    compared w32 c.args.width m m c.args.a c.args.b c.args.a c.args.b c.requires.1 (sym (mod-eq_of_lt h) ∙ ap (λ n. c.args.a % n) (sym m)) refl c.cast_signed-in_default.result c.cast_signed-in_default-2.result c.cast_signed-in_default.ensures c.cast_signed-in_default-2.ensures

@@ -2,5 +2,5 @@ use Rattle.std.proofs.Common.{rules}
 use Rattle.cabinet.proofs.Bytes.{set_small}
 use Rattle.cabinet.proofs.eight.EightBytes.write.Goals as goal
 
-pub invariant-of-self : goal.invariant-of-self
-invariant-of-self c = (search rules, (set_small _ _ _ (search rules) c.args.self.now.small (search rules), tt))
+pub invariant_of-self : goal.invariant_of-self
+invariant_of-self c = (search rules, (set_small _ _ _ (search rules) c.args.self.now.small (search rules), tt))

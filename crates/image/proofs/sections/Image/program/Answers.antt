@@ -2,36 +2,36 @@ use Rattle.std.proofs.Common.{◌≡◌, length, vec_items, ap, ◌∙◌}
 use Rattle.rules.specs.Image.{data_section, mechanism_section, module_section, line_section, program_of}
 use Rattle.image.proofs.Contents.{initial_is, activation_is, lengths_are, lines_are, in-range, bits_inside, all_lines}
 use Rattle.image.proofs.sections.Image.program.Goals as goal
-use Rattle.image.proofs.sections.Image.program.Goals.{In-ok-lines}
+use Rattle.image.proofs.sections.Image.program.Goals.{In_ok-lines}
 
-module _ (c : In-ok-lines) where
-  initial : vec_items c.in-ok-initial.initial ≡ (program_of c.args.self.now.bytes.now).initial
-  initial = c.in-ok-initial.ensures.0 ∙ initial_is _ c.requires.sound _ _ c.part-data.ensures c.requires.data_is
+module _ (c : In_ok-lines) where
+  initial : vec_items c.in_ok-initial.initial ≡ (program_of c.args.self.now.bytes.now).initial
+  initial = c.in_ok-initial.ensures.0 ∙ initial_is _ c.requires.sound _ _ c.part-data.ensures c.requires.data_is
 
-  activation : vec_items c.in-ok-activation.activation ≡ (program_of c.args.self.now.bytes.now).activation
-  activation = c.in-ok-activation.ensures ∙ activation_is _ c.requires.sound _ _ c.part-mechanisms.ensures c.requires.mechanisms_are
+  activation : vec_items c.in_ok-activation.activation ≡ (program_of c.args.self.now.bytes.now).activation
+  activation = c.in_ok-activation.ensures ∙ activation_is _ c.requires.sound _ _ c.part-mechanisms.ensures c.requires.mechanisms_are
 
-  lengths : vec_items c.in-ok-lengths.lengths ≡ (program_of c.args.self.now.bytes.now).lengths
-  lengths = c.in-ok-lengths.ensures ∙ lengths_are _ c.requires.sound _ _ c.part-modules.ensures c.requires.modules_are
+  lengths : vec_items c.in_ok-lengths.lengths ≡ (program_of c.args.self.now.bytes.now).lengths
+  lengths = c.in_ok-lengths.ensures ∙ lengths_are _ c.requires.sound _ _ c.part-modules.ensures c.requires.modules_are
 
-  lines : vec_items c.in-ok-lines.lines ≡ (program_of c.args.self.now.bytes.now).lines
-  lines = c.in-ok-lines.ensures ∙ lines_are _ c.requires.sound _ _ c.part-text.ensures c.requires.lines_are
+  lines : vec_items c.in_ok-lines.lines ≡ (program_of c.args.self.now.bytes.now).lines
+  lines = c.in_ok-lines.ensures ∙ lines_are _ c.requires.sound _ _ c.part-text.ensures c.requires.lines_are
 
-pub invariant-of-result : goal.invariant-of-result
-invariant-of-result c =
-    let at = (goal.at.invariant-of-result c).In-ok-lines in
+pub invariant_of-result : goal.invariant_of-result
+invariant_of-result c =
+    let at = (goal.at.invariant_of-result c).In_ok-lines in
     let image = c.args.self.now.bytes.now in
     let sound = c.requires.sound in
-    let d = c.in-ok-initial.initial.ok.0 ∙ ap length (initial at) in
-    let n = c.in-ok-lines.lines.ok.0 ∙ ap length (lines at) in (
+    let d = c.in_ok-initial.initial.ok.0 ∙ ap length (initial at) in
+    let n = c.in_ok-lines.lines.ok.0 ∙ ap length (lines at) in (
       in-range image sound data_section _ d,
       (
-        in-range image sound mechanism_section _ (c.in-ok-activation.activation.ok.0 ∙ ap length (activation at)),
+        in-range image sound mechanism_section _ (c.in_ok-activation.activation.ok.0 ∙ ap length (activation at)),
         (
-          in-range image sound module_section _ (c.in-ok-lengths.lengths.ok.0 ∙ ap length (lengths at)),
+          in-range image sound module_section _ (c.in_ok-lengths.lengths.ok.0 ∙ ap length (lengths at)),
           (
             in-range image sound line_section _ n,
-            (c.in-ok-initial.ensures.1, (bits_inside image sound _ _ (activation at) d, (all_lines image sound _ _ (lengths at) n, tt))),
+            (c.in_ok-initial.ensures.1, (bits_inside image sound _ _ (activation at) d, (all_lines image sound _ _ (lengths at) n, tt))),
           ),
         ),
       ),
@@ -39,7 +39,7 @@ invariant-of-result c =
 
 pub returns : goal.returns
 returns c =
-    let at = (goal.at.returns c).In-ok-lines in
+    let at = (goal.at.returns c).In_ok-lines in
     let a = initial at in
     let b = activation at in
     let l = lengths at in
