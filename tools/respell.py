@@ -23,6 +23,9 @@ LEFT_SIDES = {
     'sum-take-more': 'sum-take_more', 'total-append': 'total-append', 'total-more': 'total-more',
 }
 
+# a lemma whose new spelling is a field's name in the same file
+TAKEN = {'first-is': 'offset_is'}
+
 # names that port.py turned already, since a library had the same spelling; must-fail edits have them in the old one
 TURNED = '''after-block all-lines and-assoc and-then arg-is as-many as-number at-entry at-first at-here at-most at-other
 at-place at-same at-width back-fits bin-ind bit-at bit-in bits-inside block-none block-within both-of bound-of built-in
@@ -44,8 +47,10 @@ TOKEN = re.compile(NAME)
 
 def respelled(name):
     """The name in the toolchain's spelling."""
-    if name in LEFT_SIDES:
-        return LEFT_SIDES[name]
+    if name in LEFT_SIDES.values():
+        return name
+    if name in LEFT_SIDES or name in TAKEN:
+        return LEFT_SIDES.get(name) or TAKEN[name]
     words = name.split('-')
     if words[0] == 'Bad':  # a fact named by an adjective; the bare word is a refusal's
         words = ['Is'] + words
@@ -58,24 +63,14 @@ def declared():
     """The names with a dash that specs/ and proofs/ declare; goals, which Rattle names, are left out."""
     names = set()
     for path in antt_files():
-        block = None
         for line in open(path, encoding='utf-8'):
             line = re.sub(r'--.*', '', line.rstrip('\n'))
-            if not line.strip():
-                continue
-            if not line.startswith(' '):
-                block = None
-                head = re.match(r'(?:pub )?(data|record)\s+(\S+)', line)
-                term = re.match(r'(?:abbrev |unfoldable |pub |ruleset )*([^\s:]+)\s*:\s+(\S*)', line)
-                if head:
-                    block = head.group(1)
-                    names.add(head.group(2))
-                elif term and not term.group(2).startswith(('goal.', 'need.')):
-                    names.add(term.group(1))
-            elif block:
-                field = re.match(r'\s+(?:pub )?((?:[^\s:()]+\s+)*[^\s:()]+)\s*:\s', line)
-                if field:
-                    names.update(field.group(1).split())
+            head = re.match(r'\s*(?:pub )?(?:data|record)\s+(?:pub )?([^\s:(){}]+)', line)
+            term = re.match(r'\s*(?:abbrev |unfoldable |pub |ruleset )*((?:[^\s:(){}=]+\s+)*[^\s:(){}=]+)\s*:\s+(\S*)', line)
+            if head:
+                names.add(head.group(1))
+            elif term and not term.group(2).startswith(('goal.', 'need.')):
+                names.update(term.group(1).split())
     return {name for name in names if '-' in name and '◌' not in name}
 
 

@@ -8,8 +8,8 @@ module _ (xs ys : List ℕ) where
   over i = take i xs ++ drop i ys
 
   -- one byte more
-  pub over-more : (bytes after : List ℕ) (i x : ℕ) → after ≡ set bytes i x → i < length xs → i < length ys → bytes ≡ over i → x ≡ get_or xs i 0 → after ≡ over (i + 1)
-  over-more bytes after i x w h k e r =
+  pub over_more : (bytes after : List ℕ) (i x : ℕ) → after ≡ set bytes i x → i < length xs → i < length ys → bytes ≡ over i → x ≡ get_or xs i 0 → after ≡ over (i + 1)
+  over_more bytes after i x w h k e r =
       w ∙ ap (λ l. set l i x) (e ∙ ap (λ l. take i xs ++ l) (drop_more ys i 0 k))
       ∙ set_at (take i xs) (get_or ys i 0) (drop (i + 1) ys) x i (length-take-le i xs (omega arith))
       ∙ ap (λ b. take i xs ++ (b ∷ drop (i + 1) ys)) r
@@ -17,12 +17,12 @@ module _ (xs ys : List ℕ) where
       ∙ ap (λ l. l ++ drop (i + 1) ys) (sym (take_more xs i 0 h))
 
   -- all eight stand there
-  pub over-all : (bytes : List ℕ) (i : ℕ) → i ≡ 8 → length xs ≡ 8 → bytes ≡ over i → bytes ≡ xs ++ drop 8 ys
-  over-all bytes i at h e = e ∙ ap over at ∙ ap (λ l. l ++ drop 8 ys) (take_all 8 xs (omega arith))
+  pub over_all : (bytes : List ℕ) (i : ℕ) → i ≡ 8 → length xs ≡ 8 → bytes ≡ over i → bytes ≡ xs ++ drop 8 ys
+  over_all bytes i at h e = e ∙ ap over at ∙ ap (λ l. l ++ drop 8 ys) (take_all 8 xs (omega arith))
 
   -- all eight stand there, and nothing else does
-  pub over-whole : (bytes : List ℕ) (i : ℕ) → i ≡ 8 → length xs ≡ 8 → length ys ≡ 8 → bytes ≡ over i → bytes ≡ xs
-  over-whole bytes i at h k e = over-all bytes i at h e ∙ ap (λ l. xs ++ l) (drop_all 8 ys (omega arith)) ∙ append-nil xs
+  pub over_whole : (bytes : List ℕ) (i : ℕ) → i ≡ 8 → length xs ≡ 8 → length ys ≡ 8 → bytes ≡ over i → bytes ≡ xs
+  over_whole bytes i at h k e = over_all bytes i at h e ∙ ap (λ l. xs ++ l) (drop_all 8 ys (omega arith)) ∙ append-nil xs
 
 -- the output bytes of the data
 pub length-outputs : (d : List ℕ) → 16 ≤ length d → length (take 8 (drop 8 d)) ≡ 8

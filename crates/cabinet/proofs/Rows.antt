@@ -13,14 +13,14 @@ module _ (rows : List Row) (i : ℕ) (row : Row) (n : ℕ) (within : i < length 
   left : drop i rows ≡ row ∷ rest
   left = drop_more rows i row within ∙ ap (λ r. r ∷ rest) (sym is)
 
-  pub applied-more : (inputs : List ℕ) → row.scan ≤ n → applied n (drop i rows) inputs ≡ applied n rest (written inputs row.port row.byte)
-  applied-more inputs h = ap (λ rs. applied n rs inputs) left ∙ ap (λ b. cond b (applied n rest (written inputs row.port row.byte)) inputs) (le-leb _ _ h)
+  pub applied_more : (inputs : List ℕ) → row.scan ≤ n → applied n (drop i rows) inputs ≡ applied n rest (written inputs row.port row.byte)
+  applied_more inputs h = ap (λ rs. applied n rs inputs) left ∙ ap (λ b. cond b (applied n rest (written inputs row.port row.byte)) inputs) (le-leb _ _ h)
 
-  pub applied-stop : (inputs : List ℕ) → n < row.scan → applied n (drop i rows) inputs ≡ inputs
-  applied-stop inputs h = ap (λ rs. applied n rs inputs) left ∙ ap (λ b. cond b (applied n rest (written inputs row.port row.byte)) inputs) (lt-leb _ _ h)
+  pub applied_stop : (inputs : List ℕ) → n < row.scan → applied n (drop i rows) inputs ≡ inputs
+  applied_stop inputs h = ap (λ rs. applied n rs inputs) left ∙ ap (λ b. cond b (applied n rest (written inputs row.port row.byte)) inputs) (lt-leb _ _ h)
 
-  pub due-more : row.scan ≤ n → due n (drop i rows) ≡ suc (due n rest)
-  due-more h = ap (due n) left ∙ ap (λ b. cond b (suc (due n rest)) 0) (le-leb _ _ h)
+  pub due_more : row.scan ≤ n → due n (drop i rows) ≡ suc (due n rest)
+  due_more h = ap (due n) left ∙ ap (λ b. cond b (suc (due n rest)) 0) (le-leb _ _ h)
 
-  pub due-stop : n < row.scan → due n (drop i rows) ≡ 0
-  due-stop h = ap (due n) left ∙ ap (λ b. cond b (suc (due n rest)) 0) (lt-leb _ _ h)
+  pub due_stop : n < row.scan → due n (drop i rows) ≡ 0
+  due_stop h = ap (due n) left ∙ ap (λ b. cond b (suc (due n rest)) 0) (lt-leb _ _ h)

@@ -6,7 +6,7 @@ use Rattle.rules.specs.Route.{Arrives, passed, Route, to_end, stopped, Greatest}
 use Rattle.walk.specs.Joins.{JoinOf}
 use Rattle.walk.specs.Walked.{along, Brought, Whole, Walked}
 use Rattle.walk.proofs.Sound.{Sound, place_low}
-use Rattle.walk.proofs.Totals.{entry-joins}
+use Rattle.walk.proofs.Totals.{entry_joins}
 use Rattle.measures.specs.Models.{bound_of, steps_after}
 use Rattle.measures.proofs.Longest.{largest}
 use Rattle.certificate.specs.Longest.{LongestAt, GoesPast, Leads, Stops, Goes_on}
@@ -24,7 +24,7 @@ module _ (p : Program) (u : UnitId) (sound : Sound p u) (bounds : List ℕ) (t :
   counted path = along 0 (steps_after bounds) p path
 
   at_place : (m v : ℕ) → LongestAt p u t m v → Greatest (Brought 0 (steps_after bounds) p u m) v
-  at_place m v h = largest (entry-joins p u sound 0 (steps_after bounds) t walked m v (place_low sound m h.place) h.read)
+  at_place m v h = largest (entry_joins p u sound 0 (steps_after bounds) t walked m v (place_low sound m h.place) h.read)
 
   -- where a route passes a line, a longest one may
   past : (l : ℕ) (path : List ℕ) → Arrives p u path l → (o : Own p u l) → (v : ℕ) → steps_after bounds l (line_at p l) (counted path) ≡ v → ((w : ℕ) → Brought 0 (steps_after bounds) p u l w → steps_after bounds l (line_at p l) w ≤ v) → GoesPast p u bounds t v l
@@ -48,8 +48,8 @@ module _ (p : Program) (u : UnitId) (sound : Sound p u) (bounds : List ℕ) (t :
           (l, (past l path a o v e (λ x b. g.none_above _ (l ∷ b.0, passed b.1 o w, ap (steps_after bounds l (line_at p l)) b.2)), w))
 
   -- a longest route of the unit stops at some line, or at the end
-  pub stop-or-end : (n : ℕ) → JoinOf max (Whole 0 (steps_after bounds) p u) n → ((l : ℕ) → Stops p u bounds t n l → ⊥) → LongestAt p u t (end p u) n
-  stop-or-end n j none = go g.attained.0 g.attained.1 g.attained.2
+  pub stop_or_end : (n : ℕ) → JoinOf max (Whole 0 (steps_after bounds) p u) n → ((l : ℕ) → Stops p u bounds t n l → ⊥) → LongestAt p u t (end p u) n
+  stop_or_end n j none = go g.attained.0 g.attained.1 g.attained.2
     where
       g : Greatest (Whole 0 (steps_after bounds) p u) n
       g = largest j
@@ -69,12 +69,12 @@ module _ (p : Program) (u : UnitId) (sound : Sound p u) (bounds : List ℕ) (t :
   pub from_end : (n : ℕ) → Goes_on p u bounds n [] (end p u) n
   from_end n path a e = (to_end a, e)
 
-  pub from-stop : (n l : ℕ) (s : Stops p u bounds t n l) → Goes_on p u bounds n (l ∷ []) l s.0.value
-  from-stop n l s path a e = (stopped a s.0.own s.1, ap (steps_after bounds l (line_at p l)) e ∙ s.0.adds)
+  pub from_stop : (n l : ℕ) (s : Stops p u bounds t n l) → Goes_on p u bounds n (l ∷ []) l s.0.value
+  from_stop n l s path a e = (stopped a s.0.own s.1, ap (steps_after bounds l (line_at p l)) e ∙ s.0.adds)
 
   -- one line back
-  pub one-back : (n m v l : ℕ) (lines : List ℕ) (s : Leads p u bounds t m v l) → Goes_on p u bounds n lines m v → Goes_on p u bounds n (lines ++ l ∷ []) l s.0.value
-  one-back n m v l lines s h path a e =
+  pub one_back : (n m v l : ℕ) (lines : List ℕ) (s : Leads p u bounds t m v l) → Goes_on p u bounds n lines m v → Goes_on p u bounds n (lines ++ l ∷ []) l s.0.value
+  one_back n m v l lines s h path a e =
       subst (λ (z : List ℕ). Route p u z × (counted z ≡ n)) (sym (append_assoc lines (l ∷ []) path))
       (h (l ∷ path) (passed a s.0.own s.1) (ap (steps_after bounds l (line_at p l)) e ∙ s.0.adds))
 

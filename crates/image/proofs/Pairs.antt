@@ -85,13 +85,13 @@ lines_part image b place n e (suc m) k h =
 
 -- all records of a part that lies in the image
 module _ (image b : List ℕ) (place n : ℕ) where
-  pub pairs-whole : b ≡ take (2 * n) (drop place image) → length b ≡ 2 * n → pairs_from b 0 (length b / 2) ≡ pairs_from image place n
-  pairs-whole e long =
+  pub pairs_whole : b ≡ take (2 * n) (drop place image) → length b ≡ 2 * n → pairs_from b 0 (length b / 2) ≡ pairs_from image place n
+  pairs_whole e long =
       let q : length b / 2 ≡ n = omega arith in
       ap (pairs_from b 0) q ∙ pairs_part image b place (2 * n) e n 0 (omega arith) ∙ ap (λ (l : ℕ). pairs_from image l n) (add-zero place)
 
-  pub lines-whole : b ≡ take (4 * n) (drop place image) → length b ≡ 4 * n → lines_from b 0 (length b / 4) ≡ lines_from image place n
-  lines-whole e long =
+  pub lines_whole : b ≡ take (4 * n) (drop place image) → length b ≡ 4 * n → lines_from b 0 (length b / 4) ≡ lines_from image place n
+  lines_whole e long =
       let q : length b / 4 ≡ n = omega arith in
       ap (lines_from b 0) q ∙ lines_part image b place (4 * n) e n 0 (omega arith) ∙ ap (λ (l : ℕ). lines_from image l n) (add-zero place)
 

@@ -90,8 +90,8 @@ module _ (image : List ℕ) where
   at_same e = ap at e
 
   -- a count that is there and in its range is passed
-  pub clear-count : (s : Section) → Clear image (at s) → at s + 2 ≤ len → InRange s (count image s) → Clear image (section_place image s)
-  clear-count s clear held range r l small b = elim (cases_lt l (at s + 2)) [ inl h ↦ absurd (go b (clear r l small b) h) | inr h ↦ h ]
+  pub clear_count : (s : Section) → Clear image (at s) → at s + 2 ≤ len → InRange s (count image s) → Clear image (section_place image s)
+  clear_count s clear held range r l small b = elim (cases_lt l (at s + 2)) [ inl h ↦ absurd (go b (clear r l small b) h) | inr h ↦ h ]
     where
       out : (t : Section) → s ≡ t → (count image t < least_count t) ⊎ (most_count t < count image t) → ⊥
       out t e (inl h) = let q = (subst (λ u. InRange u (count image u)) e range).0 in omega arith
@@ -123,14 +123,14 @@ module _ (image : List ℕ) where
       go (by_total e q h) low high = omega arith
 
   -- a section that is there, and whose activation bits, if it has any, stand inside the data, is passed
-  pub clear-section : (s : Section) → Clear image (section_place image s) → at s + 2 + size s ≤ len → (s ≡ mechanism_section → BitsHeld image (count image mechanism_section)) → Clear image (at s + 2 + size s)
-  clear-section s clear held bits = clear_within s (size s) (omega arith) clear held (λ e k h. bits e k (let x = ap size e in omega arith))
+  pub clear_section : (s : Section) → Clear image (section_place image s) → at s + 2 + size s ≤ len → (s ≡ mechanism_section → BitsHeld image (count image mechanism_section)) → Clear image (at s + 2 + size s)
+  clear_section s clear held bits = clear_within s (size s) (omega arith) clear held (λ e k h. bits e k (let x = ap size e in omega arith))
 
   -- WHAT THE FIRST BREACH EARNS
 
   -- what is broken where the image is clear up to, by the lowest rule there, is the refusal
-  first-breach : (rule place : ℕ) → rule < 5 → Clear image place → ImageBreaks image rule place → ((r : ℕ) → ImageBreaks image r place → rule ≤ r) → ImageRefused image rule place
-  first-breach rule place small clear broken lowest = record {
+  first_breach : (rule place : ℕ) → rule < 5 → Clear image place → ImageBreaks image rule place → ((r : ℕ) → ImageBreaks image r place → rule ≤ r) → ImageRefused image rule place
+  first_breach rule place small clear broken lowest = record {
     broken = broken;
     earliest = λ r l h b. (small, elim (cases_lt place l) [ inl x ↦ inl x | inr x ↦ (let y = clear r l h b in let e : place ≡ l = omega arith in inr (e, lowest r (subst (ImageBreaks image r) (sym e) b))) ]);
   }
@@ -143,14 +143,14 @@ module _ (image : List ℕ) where
   numbered r l (by_left_over e q h) = omega arith
   numbered r l (by_total e q h) = omega arith
 
-  pub refused-short-count : (s : Section) → Clear image (at s) → len < at s + 2 → ImageRefused image 1 (at s)
-  refused-short-count s clear short = first-breach 1 (at s) (omega arith) clear (by_short_count s refl refl short) (λ r b. numbered r (at s) b)
+  pub refused_short_count : (s : Section) → Clear image (at s) → len < at s + 2 → ImageRefused image 1 (at s)
+  refused_short_count s clear short = first_breach 1 (at s) (omega arith) clear (by_short_count s refl refl short) (λ r b. numbered r (at s) b)
 
-  pub refused-short-section : (s : Section) → Clear image (section_place image s) → len < at s + 2 + size s → ImageRefused image 1 (section_place image s)
-  refused-short-section s clear short = first-breach 1 (section_place image s) (omega arith) clear (by_short_section s refl refl short) (λ r b. numbered r (section_place image s) b)
+  pub refused_short_section : (s : Section) → Clear image (section_place image s) → len < at s + 2 + size s → ImageRefused image 1 (section_place image s)
+  refused_short_section s clear short = first_breach 1 (section_place image s) (omega arith) clear (by_short_section s refl refl short) (λ r b. numbered r (section_place image s) b)
 
-  pub refused-count : (s : Section) → Clear image (at s) → at s + 2 ≤ len → (count image s < least_count s) ⊎ (most_count s < count image s) → ImageRefused image 2 (at s)
-  refused-count s clear held out = first-breach 2 (at s) (omega arith) clear (by_count s refl refl out) lowest
+  pub refused_count : (s : Section) → Clear image (at s) → at s + 2 ≤ len → (count image s < least_count s) ⊎ (most_count s < count image s) → ImageRefused image 2 (at s)
+  refused_count s clear held out = first_breach 2 (at s) (omega arith) clear (by_count s refl refl out) lowest
     where
       lowest : (r : ℕ) → ImageBreaks image r (at s) → 2 ≤ r
       lowest r (by_short_count t e q h) = absurd (omega arith)
@@ -160,9 +160,9 @@ module _ (image : List ℕ) where
       lowest r (by_left_over e q h) = omega arith
       lowest r (by_total e q h) = omega arith
 
-  pub refused-activation : (k : ℕ) → k < count image mechanism_section → Clear image (section_place image mechanism_section) → section_place image mechanism_section + 2 * count image mechanism_section ≤ len → BitsHeld image k → 8 * count image data_section ≤ pair_at image (section_place image mechanism_section + 2 * k) → ImageRefused image 3 (section_place image mechanism_section + 2 * k)
-  refused-activation k few clear held bits out =
-      first-breach 3 (section_place image mechanism_section + 2 * k) (omega arith)
+  pub refused_activation : (k : ℕ) → k < count image mechanism_section → Clear image (section_place image mechanism_section) → section_place image mechanism_section + 2 * count image mechanism_section ≤ len → BitsHeld image k → 8 * count image data_section ≤ pair_at image (section_place image mechanism_section + 2 * k) → ImageRefused image 3 (section_place image mechanism_section + 2 * k)
+  refused_activation k few clear held bits out =
+      first_breach 3 (section_place image mechanism_section + 2 * k) (omega arith)
       (clear_within mechanism_section (2 * k) (omega arith) clear held (λ e j h. bits j (omega arith)))
       (by_activation refl few refl out)
       lowest
@@ -187,8 +187,8 @@ module _ (image : List ℕ) where
   past whole r l far (by_left_over e q h) = omega arith
   past whole r l far (by_total e q h) = omega arith
 
-  pub refused-left-over : Clear image (image_end image) → image_end image < len → ImageRefused image 4 (image_end image)
-  refused-left-over clear more = first-breach 4 (image_end image) (omega arith) clear (by_left_over refl refl more) (λ r b. past (omega arith) r (image_end image) (omega arith) b)
+  pub refused_left_over : Clear image (image_end image) → image_end image < len → ImageRefused image 4 (image_end image)
+  refused_left_over clear more = first_breach 4 (image_end image) (omega arith) clear (by_left_over refl refl more) (λ r b. past (omega arith) r (image_end image) (omega arith) b)
 
   -- nor the fourth, where it has no byte behind its end
   unbroken : Clear image (image_end image) → len ≡ image_end image → (r l : ℕ) → r < 5 → ImageBreaks image r l → ⊥
@@ -202,8 +202,8 @@ module _ (image : List ℕ) where
       go (by_left_over e q h) = omega arith
       go (by_total e q h) = omega arith
 
-  pub refused-total : Clear image (image_end image) → len ≡ image_end image → (total (program_of image).lengths ≡ count image line_section → ⊥) → ImageRefused image 5 (at line_section)
-  refused-total clear whole wrong = record { broken = by_total refl refl wrong; earliest = λ r l h b. absurd (unbroken clear whole r l h b) }
+  pub refused_total : Clear image (image_end image) → len ≡ image_end image → (total (program_of image).lengths ≡ count image line_section → ⊥) → ImageRefused image 5 (at line_section)
+  refused_total clear whole wrong = record { broken = by_total refl refl wrong; earliest = λ r l h b. absurd (unbroken clear whole r l h b) }
 
   pub sound : Clear image (image_end image) → len ≡ image_end image → total (program_of image).lengths ≡ count image line_section → ImageSound image
   sound clear whole right r l b = elim (cases_lt r 5) [ inl h ↦ unbroken clear whole r l h b | inr h ↦ go h b ]

@@ -12,8 +12,8 @@ use Rattle.image.specs.Refusals.{RefusedBy}
 use Rattle.image.specs.Parts.{section_of, part_of, StartsAre}
 use Rattle.image.specs.Reading.{Found, Missing, short_count, bad_count, short_section, PairsBelow, FirstOutside}
 use Rattle.image.specs.Whole.{IsSection}
-use Rattle.image.proofs.Places.{Clear, BitsHeld, clear-count, clear-section, refused-short-count, refused-short-section, refused-count, refused-activation}
-use Rattle.image.proofs.Pairs.{part_pair, pairs-whole}
+use Rattle.image.proofs.Places.{Clear, BitsHeld, clear_count, clear_section, refused_short_count, refused_short_section, refused_count, refused_activation}
+use Rattle.image.proofs.Pairs.{part_pair, pairs_whole}
 
 module _ (image : List ℕ) where
   -- the place of the count of a section of kind k
@@ -24,67 +24,67 @@ module _ (image : List ℕ) where
   size k = record_size (section_of k) * count image (section_of k)
 
   -- what is missing in a section that the image is clear up to is its refusal
-  pub missing-refused : (s : rules.Section) (place : ℕ) (e : ImageFault) → place ≡ count_place image s → Clear image (count_place image s) → Missing image place s e → RefusedBy image e
-  missing-refused s place e here clear m = go e (subst (λ (l : ℕ). Missing image l s e) here m)
+  pub missing_refused : (s : rules.Section) (place : ℕ) (e : ImageFault) → place ≡ count_place image s → Clear image (count_place image s) → Missing image place s e → RefusedBy image e
+  missing_refused s place e here clear m = go e (subst (λ (l : ℕ). Missing image l s e) here m)
     where
       go : (f : ImageFault) → Missing image (count_place image s) s f → RefusedBy image f
-      go _ (short_count h) = refused-short-count image s clear h
-      go _ (bad_count h o) = refused-count image s clear h o
-      go _ (short_section h o) = refused-short-section image s (clear-count image s clear h.there h.range) o
+      go _ (short_count h) = refused_short_count image s clear h
+      go _ (bad_count h o) = refused_count image s clear h o
+      go _ (short_section h o) = refused_short_section image s (clear_count image s clear h.there h.range) o
 
   pub found_at : (k : Kind) (place : ℕ) (x : Section) → place ≡ at k → Found image place k x → Found image (at k) k x
   found_at k place x here f = subst (λ (l : ℕ). Found image l k x) here f
 
   module _ (k : Kind) (x : Section) (found : Found image (at k) k x) where
     pub counted : Clear image (at k) → Clear image (section_place image (section_of k))
-    counted clear = clear-count image (section_of k) clear found.counted.there found.counted.range
+    counted clear = clear_count image (section_of k) clear found.counted.there found.counted.range
 
     pub passed : Clear image (at k) → (section_of k ≡ mechanism_section → BitsHeld image (count image mechanism_section)) → Clear image (at k + 2 + size k)
-    passed clear bits = clear-section image (section_of k) (counted clear) found.held bits
+    passed clear bits = clear_section image (section_of k) (counted clear) found.held bits
 
-    pub is-section : IsSection image k x
-    is-section = record { kind = found.kind; place = found.part.at; bytes = found.part.bytes }
+    pub is_section : IsSection image k x
+    is_section = record { kind = found.kind; place = found.part.at; bytes = found.part.bytes }
 
     -- the part that was taken of the section
     module _ (p : Part) (is : p ≡ part_of x) where
       pub part_bytes : p.bytes.now ≡ take (size k) (drop (section_place image (section_of k)) image)
       part_bytes = ap (λ (q : Part). q.bytes.now) is ∙ found.part.bytes
 
-      pub part-long : length p.bytes.now ≡ size k
-      part-long = ap (λ (q : Part). length q.bytes.now) is ∙ found.part.long
+      pub part_long : length p.bytes.now ≡ size k
+      part_long = ap (λ (q : Part). length q.bytes.now) is ∙ found.part.long
 
-      pub part-place : p.offset ≡ section_place image (section_of k)
-      part-place = ap (λ (q : Part). q.offset) is ∙ found.part.at
+      pub part_place : p.offset ≡ section_place image (section_of k)
+      part_place = ap (λ (q : Part). q.offset) is ∙ found.part.at
 
       pub part_end : (r : ℕ) → r ≡ p.offset + length p.bytes.now → r ≡ at k + 2 + size k
-      part_end r e = let a = part-place in let b = part-long in omega arith
+      part_end r e = let a = part_place in let b = part_long in omega arith
 
   -- the activation bits
   module _ (x : Section) (found : Found image (at Mechanisms) Mechanisms x) (p : Part) (is : p ≡ part_of x) (limit : ℕ) (bits : limit ≡ 8 * count image data_section) where
     bit_at : (k : ℕ) → k < count image mechanism_section → pair_at p.bytes.now (2 * k) ≡ pair_at image (section_place image mechanism_section + 2 * k)
     bit_at k h = part_pair image p.bytes.now (section_place image mechanism_section) (size Mechanisms) (2 * k) (part_bytes Mechanisms x found p is) (omega arith)
 
-    pub bits-held : PairsBelow p.bytes.now limit (length p.bytes.now / 2) → BitsHeld image (count image mechanism_section)
-    bits-held all k h =
-        let l = part-long Mechanisms x found p is in
+    pub bits_held : PairsBelow p.bytes.now limit (length p.bytes.now / 2) → BitsHeld image (count image mechanism_section)
+    bits_held all k h =
+        let l = part_long Mechanisms x found p is in
         let e = bit_at k h in
         let q = all k (omega arith) in
         omega arith
 
-    pub outside-refused : (e : ImageFault) → Clear image (at Mechanisms) → FirstOutside limit p e → RefusedBy image e
-    outside-refused e clear f =
-        let l = part-long Mechanisms x found p is in
+    pub outside_refused : (e : ImageFault) → Clear image (at Mechanisms) → FirstOutside limit p e → RefusedBy image e
+    outside_refused e clear f =
+        let l = part_long Mechanisms x found p is in
         let few : f.index < count image mechanism_section = (let w = f.within in omega arith) in
         let here = bit_at f.index few in
         let before : BitsHeld image f.index = λ k h. (let q = f.before k h in let b = bit_at k (omega arith) in omega arith) in
         let out : 8 * count image data_section ≤ pair_at image (section_place image mechanism_section + 2 * f.index) = (let o = f.outside in omega arith) in
-        let place = ap (λ (o : ℕ). o + 2 * f.index) (part-place Mechanisms x found p is) in
-        subst (RefusedBy image) (sym f.named) (subst (rules.ImageRefused image 3) (sym place) (refused-activation image f.index few (counted Mechanisms x found clear) found.held before out))
+        let place = ap (λ (o : ℕ). o + 2 * f.index) (part_place Mechanisms x found p is) in
+        subst (RefusedBy image) (sym f.named) (subst (rules.ImageRefused image 3) (sym place) (refused_activation image f.index few (counted Mechanisms x found clear) found.held before out))
 
   -- the modules' lengths
   module _ (x : Section) (found : Found image (at Modules) Modules x) (p : Part) (is : p ≡ part_of x) where
     pub lengths_are : pairs_from p.bytes.now 0 (length p.bytes.now / 2) ≡ (program_of image).lengths
-    lengths_are = pairs-whole image p.bytes.now (section_place image module_section) (count image module_section) (part_bytes Modules x found p is) (part-long Modules x found p is)
+    lengths_are = pairs_whole image p.bytes.now (section_place image module_section) (count image module_section) (part_bytes Modules x found p is) (part_long Modules x found p is)
 
     pub starts_are : (starts : List ℕ) → ((m : ℕ) → m < 7 → get_or starts m 0 ≡ total (take m (pairs_from p.bytes.now 0 (length p.bytes.now / 2)))) → StartsAre (program_of image) starts
     starts_are starts h m lt = h m lt ∙ ap (λ (ns : List ℕ). total (take m ns)) lengths_are

@@ -15,16 +15,16 @@ module _ (q k r : ℕ) (rl : r < 2 ^ k) where
 
   regroup : (d : ℕ) → whole d ≡ (q * 2 + d) * 2 ^ k + r
   unfolding whole
-  regroup d = omega (arith, ap (λ (x : ℕ). q * x) (twice k), mul-two, spread)
+  regroup d = omega (arith, ap (λ (x : ℕ). q * x) (twice k), mul_two, spread)
     where
-      mul-two : q * (2 ^ k * 2) ≡ q * 2 * 2 ^ k
-      mul-two = omega arith
+      mul_two : q * (2 ^ k * 2) ≡ q * 2 * 2 ^ k
+      mul_two = omega arith
 
       spread : (q * 2 + d) * 2 ^ k ≡ q * 2 * 2 ^ k + d * 2 ^ k
       spread = omega arith
 
-  at-k : (d : ℕ) → d < 2 → whole d / 2 ^ k % 2 ≡ d
-  at-k d l = ap (λ (x : ℕ). x / 2 ^ k % 2) (regroup d) ∙ ap (λ (x : ℕ). x % 2) (shr_high (q * 2 + d) k r rl) ∙ mod-mul-add q 2 d l
+  at_k : (d : ℕ) → d < 2 → whole d / 2 ^ k % 2 ≡ d
+  at_k d l = ap (λ (x : ℕ). x / 2 ^ k % 2) (regroup d) ∙ ap (λ (x : ℕ). x % 2) (shr_high (q * 2 + d) k r rl) ∙ mod-mul-add q 2 d l
 
   above : (d e : ℕ) → d < 2 → whole d / 2 ^ (k + 1 + e) % 2 ≡ q / 2 ^ e % 2
   unfolding whole
@@ -66,7 +66,7 @@ byte_same : (b k : ℕ) (v : Bool) → eqb (bit_of_byte (changed b k v) k) 1 ≡
 unfolding whole
 byte_same b k v =
     ap (λ (x : ℕ). eqb (bit_of_byte x k) 1) (replaced b k (as_number v))
-    ∙ ap (λ (x : ℕ). eqb x 1) (at-k (b / 2 ^ (k + 1)) k (b % 2 ^ k) (mod_below b (2 ^ k) (pow_pos k)) (as_number v) (number_below v)) ∙ number_is v
+    ∙ ap (λ (x : ℕ). eqb x 1) (at_k (b / 2 ^ (k + 1)) k (b % 2 ^ k) (mod_below b (2 ^ k) (pow_pos k)) (as_number v) (number_below v)) ∙ number_is v
 
 byte_other : (b k : ℕ) (v : Bool) (j : ℕ) → j ≢ k → eqb (bit_of_byte (changed b k v) j) 1 ≡ eqb (bit_of_byte b j) 1
 unfolding whole

@@ -23,5 +23,5 @@ module _ (f : Bool) (activation : List ℕ) (r : Registers) (bytes : List ℕ) w
       go false false false x y z h = absurd h
 
   -- such a line, by its code
-  pub by-its-width : (x : Line) (q : ℕ → Op) → decode x ≡ by_width x.mode q → HasRule (of (decode x)) → of (decode x) ≡ effect f activation (q x.mode) r bytes
-  by-its-width x q e h = ap of e ∙ at_width x.mode q (subst (λ (o : Option Op). HasRule (of o)) e h)
+  pub by_its_width : (x : Line) (q : ℕ → Op) → decode x ≡ by_width x.mode q → HasRule (of (decode x)) → of (decode x) ≡ effect f activation (q x.mode) r bytes
+  by_its_width x q e h = ap of e ∙ at_width x.mode q (subst (λ (o : Option Op). HasRule (of o)) e h)

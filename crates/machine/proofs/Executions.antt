@@ -13,12 +13,12 @@ use Rattle.rules.specs.Effect.{Registers, Turn, enters, skips, follows, goes, st
 use Rattle.rules.specs.Run.{Memory, with_bytes, at, over, Config, enter, turned, effected, carried, Step, step, Runs}
 use Rattle.theory.specs.Decoded.{Says}
 use Rattle.theory.specs.Standing.{Fitting}
-use Rattle.theory.proofs.Decode.{decode-says}
+use Rattle.theory.proofs.Decode.{decode_says}
 use Rattle.theory.proofs.Text.{named}
 use Rattle.theory.proofs.Orderly.{Orderly, orderly, clash}
-use Rattle.theory.proofs.Units.{after-plain}
+use Rattle.theory.proofs.Units.{after_plain}
 use Rattle.theory.proofs.Effects.{Turns, did, from_provided}
-use Rattle.theory.proofs.Stands.{Stands, runs-stand, goes_on}
+use Rattle.theory.proofs.Stands.{Stands, runs_stand, goes_on}
 use Rattle.theory.proofs.Ruled.{formed, balanced}
 use Rattle.theory.proofs.Ends.{bound}
 use Rattle.lines.specs.declared.turn.Turn as machine
@@ -49,8 +49,8 @@ inward_cond true k = tt
 inward_cond false k = tt
 
 module _ (f : Bool) (activation : List ℕ) (r : Registers) (bytes : List ℕ) where
-  begin-inward : (x : Line) (d : Done) → is_begin x ≡ true → line_effect f activation (decode x) r bytes ≡ Some d → Inward d.turn
-  begin-inward x d b e =
+  begin_inward : (x : Line) (d : Done) → is_begin x ≡ true → line_effect f activation (decode x) r bytes ≡ Some d → Inward d.turn
+  begin_inward x d b e =
       go (eqb x.mode 0)
       (subst (λ (n : ℕ). line_effect f activation (decode (record { code = n; mode = x.mode; operand = x.operand })) r bytes ≡ Some d) (eqb-true x.code 22 b) e)
     where
@@ -78,13 +78,13 @@ ord p acc = orderly p (formed p acc)
 
 module _ (p : Program) (acc : Accepted p) (t : ℕ) (small : t < 7) (m₀ : Memory) (fits : Fitting p m₀) where
   pub stands : (n : ℕ) (c : Config) → Runs p (enter p (Module t) m₀) n c → Stands p t n c
-  stands n c runs = runs-stand p acc.shaped (ord p acc) t m₀ (named p acc.shaped t small) fits n c runs
+  stands n c runs = runs_stand p acc.shaped (ord p acc) t m₀ (named p acc.shaped t small) fits n c runs
 
-  pub steps-bounded : (n : ℕ) (c : Config) → Runs p (enter p (Module t) m₀) n c → n ≤ length p.lines
-  steps-bounded n c runs = bound p acc.shaped (ord p acc) t n c.place c.registers.cells (named p acc.shaped t small) (stands n c runs).routed
+  pub steps_bounded : (n : ℕ) (c : Config) → Runs p (enter p (Module t) m₀) n c → n ≤ length p.lines
+  steps_bounded n c runs = bound p acc.shaped (ord p acc) t n c.place c.registers.cells (named p acc.shaped t small) (stands n c runs).routed
 
-  pub here-at : (n : ℕ) (u : UnitId) (l : ℕ) (r : Registers) (m : Memory) → Runs p (enter p (Module t) m₀) n (standing_at u l r m) → Here p u l r m
-  here-at n u l r m runs =
+  pub here_at : (n : ℕ) (u : UnitId) (l : ℕ) (r : Registers) (m : Memory) → Runs p (enter p (Module t) m₀) n (standing_at u l r m) → Here p u l r m
+  here_at n u l r m runs =
       let s = stands n (standing_at u l r m) runs in
       let w = s.routed.2 in
       record { real = w.real; own = w.own; points = s.fitting.points_fit; rule = go (goes_on p acc.shaped (ord p acc) t n (standing_at u l r m) (balanced p acc) s) }
@@ -100,11 +100,11 @@ module _ (p : Program) (acc : Accepted p) where
   operation : (l : ℕ) → l < length p.lines → (o : Op) × (op_at p l ≡ Some o) × Says (line_at p l) o × Reaches p (line_at p l) (Some o)
   operation l h =
       let q = (ord p acc).known l h in
-      (q.0, q.1, decode-says (line_at p l) q.0 q.1, subst (λ (o : Option Op). Reaches p (line_at p l) o) q.1 ((ord p acc).reaches l h))
+      (q.0, q.1, decode_says (line_at p l) q.0 q.1, subst (λ (o : Option Op). Reaches p (line_at p l) o) q.1 ((ord p acc).reaches l h))
 
   -- from code 22 on, the operand is a mechanism of the program
-  pub mechanism-inside : (l : ℕ) → l < length p.lines → 22 ≤ (line_at p l).code → (line_at p l).operand < length p.activation
-  mechanism-inside l h high = let q = operation l h in go q.0 q.2 q.3
+  pub mechanism_inside : (l : ℕ) → l < length p.lines → 22 ≤ (line_at p l).code → (line_at p l).operand < length p.activation
+  mechanism_inside l h high = let q = operation l h in go q.0 q.2 q.3
     where
       low : {P : Type 0} (n : ℕ) → (line_at p l).code ≡ n → n < 22 → P
       low n e b = absurd (omega arith)
@@ -144,10 +144,10 @@ module _ (p : Program) (acc : Accepted p) where
     where
       next : (b : Bool) → is_begin (line_at p l) ≡ b → (b ≡ true → ⊥) → after p l ≡ l + 1
       next true e n = absurd (n refl)
-      next false e n = after-plain p acc.shaped (ord p acc) l e
+      next false e n = after_plain p acc.shaped (ord p acc) l e
 
       begun : (w : machine.Turn) → line_effect (flag_at p l) p.activation (decode (line_at p l)) r bytes ≡ Some (keeping r' bytes' (turn_of w)) → is_begin (line_at p l) ≡ true → Inward (turn_of w)
-      begun w e b = begin-inward (flag_at p l) p.activation r bytes (line_at p l) (keeping r' bytes' (turn_of w)) b e
+      begun w e b = begin_inward (flag_at p l) p.activation r bytes (line_at p l) (keeping r' bytes' (turn_of w)) b e
 
       led : (w : machine.Turn) → line_effect (flag_at p l) p.activation (decode (line_at p l)) r bytes ≡ Some (keeping r' bytes' (turn_of w)) → (o : Op) × Reaches p (line_at p l) (Some o) × Turns o (turn_of w)
       led w e =

@@ -6,8 +6,8 @@ use Rattle.rules.specs.Program.{Program, first, block_init, block_done}
 use Rattle.rules.specs.Session.{first_lines, fresh}
 
 module _ (p : Program) (activation : List ℕ) where
-  pub one-point : (all xs ys : List ℕ) (k x : ℕ) → k < length activation → xs ++ first_lines p k (drop k activation) ≡ all → x ≡ first p (Mechanism k) → ys ≡ xs ++ x ∷ [] → ys ++ first_lines p (k + 1) (drop (k + 1) activation) ≡ all
-  one-point all xs ys k x h e f g =
+  pub one_point : (all xs ys : List ℕ) (k x : ℕ) → k < length activation → xs ++ first_lines p k (drop k activation) ≡ all → x ≡ first p (Mechanism k) → ys ≡ xs ++ x ∷ [] → ys ++ first_lines p (k + 1) (drop (k + 1) activation) ≡ all
+  one_point all xs ys k x h e f g =
       let rest = first_lines p (k + 1) (drop (k + 1) activation) in
       ap (λ (zs : List ℕ). zs ++ rest) g
       ∙ append_assoc xs (x ∷ []) rest
@@ -15,8 +15,8 @@ module _ (p : Program) (activation : List ℕ) where
       ∙ ap (λ (zs : List ℕ). xs ++ first_lines p k zs) (sym (drop_more activation k 0 h))
       ∙ e
 
-  pub all-points : (all xs : List ℕ) (k : ℕ) → length activation ≤ k → xs ++ first_lines p k (drop k activation) ≡ all → xs ≡ all
-  all-points all xs k h e = sym (append-nil xs) ∙ ap (λ (zs : List ℕ). xs ++ first_lines p k zs) (sym (drop_all k activation h)) ∙ e
+  pub all_points : (all xs : List ℕ) (k : ℕ) → length activation ≤ k → xs ++ first_lines p k (drop k activation) ≡ all → xs ≡ all
+  all_points all xs k h e = sym (append-nil xs) ∙ ap (λ (zs : List ℕ). xs ++ first_lines p k zs) (sym (drop_all k activation h)) ∙ e
 
 -- the fresh memory by its parts
 pub fresh_parts : (p : Program) (bytes points : List ℕ) (i d : ℕ) → bytes ≡ p.initial → i ≡ first p (Module block_init) → d ≡ first p (Module block_done) → points ≡ first_lines p 0 p.activation → record { bytes = bytes; init_point = i; done_point = d; points = points } ≡ fresh p

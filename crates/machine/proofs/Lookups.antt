@@ -27,5 +27,5 @@ module _ (formed : Formed) (l : ℕ) (within : l < length (meant formed.program)
       get_or_read (vec_items formed.flags) l f h e false ∙ formed.flags_are l within
 
   -- what the line does by what was read is what it does by the program
-  pub effect-read : (r : Registers) (bytes ms : List ℕ) (f : Bool) (x : Line) (cs : List ℕ) → f ≡ get_or (vec_items formed.flags) l f → x ≡ get_or (vec_items formed.program.lines) l x → cs ≡ vec_items formed.program.activation → ms ≡ bytes → line_effect f cs (decode x) r ms ≡ line_effect (flag_at (meant formed.program) l) (meant formed.program).activation (decode (line_at (meant formed.program) l)) r bytes
-  effect-read r bytes ms f x cs e₁ e₂ e₃ e₄ = same_effect r f _ cs _ x _ ms bytes (flag_read f e₁) e₃ (line_read x e₂) e₄
+  pub effect_read : (r : Registers) (bytes ms : List ℕ) (f : Bool) (x : Line) (cs : List ℕ) → f ≡ get_or (vec_items formed.flags) l f → x ≡ get_or (vec_items formed.program.lines) l x → cs ≡ vec_items formed.program.activation → ms ≡ bytes → line_effect f cs (decode x) r ms ≡ line_effect (flag_at (meant formed.program) l) (meant formed.program).activation (decode (line_at (meant formed.program) l)) r bytes
+  effect_read r bytes ms f x cs e₁ e₂ e₃ e₄ = same_effect r f _ cs _ x _ ms bytes (flag_read f e₁) e₃ (line_read x e₂) e₄

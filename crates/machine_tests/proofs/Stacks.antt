@@ -25,25 +25,25 @@ module _ (f : Bool) (activation : List ℕ) (r : Registers) (bytes : List ℕ) w
       go true false e = absurd (let z : ◌≡◌ {A = ℕ} 0 1 = cc e in omega arith)
       go false t e = tt
 
-  ruled-load : (s : Bool) (a : ℕ) → a < 8 * length bytes → length r.cells < 8 → HasRule (effect f activation (ldr s a) r bytes)
-  ruled-load s a h l = kept (bit_in bytes a) (loaded (pushed f r) r (negated_if s (bit bytes a)) bytes) (lt-ltb a (8 * length bytes) h) (loads (negated_if s (bit bytes a)) l)
+  ruled_load : (s : Bool) (a : ℕ) → a < 8 * length bytes → length r.cells < 8 → HasRule (effect f activation (ldr s a) r bytes)
+  ruled_load s a h l = kept (bit_in bytes a) (loaded (pushed f r) r (negated_if s (bit bytes a)) bytes) (lt-ltb a (8 * length bytes) h) (loads (negated_if s (bit bytes a)) l)
 
   by_mode : (m : ℕ) (q : Bool → Op) → m < 2 → ((s : Bool) → HasRule (effect f activation (q s) r bytes)) → HasRule (line_effect f activation (by_negation m q) r bytes)
   by_mode zero q h y = y false
   by_mode (suc zero) q h y = y true
   by_mode (suc (suc m)) q h y = absurd (omega arith)
 
-  pub load-ruled : (x : Line) → x.code ≡ 1 → x.mode < 2 → x.operand < 8 * length bytes → length r.cells < 8 → HasRule (line_effect f activation (decode x) r bytes)
-  load-ruled x c m h l =
+  pub load_ruled : (x : Line) → x.code ≡ 1 → x.mode < 2 → x.operand < 8 * length bytes → length r.cells < 8 → HasRule (line_effect f activation (decode x) r bytes)
+  load_ruled x c m h l =
       subst (λ (n : ℕ). HasRule (line_effect f activation (decode (record { code = n; mode = x.mode; operand = x.operand })) r bytes)) (sym c)
-      (by_mode x.mode (λ s. ldr s x.operand) m (λ s. ruled-load s x.operand h l))
+      (by_mode x.mode (λ s. ldr s x.operand) m (λ s. ruled_load s x.operand h l))
 
   pops : (g : Logic) (cells : List Bool) → 0 < length cells → HasRule (popped g r cells bytes)
   pops g [] h = absurd (omega arith)
   pops g (c ∷ cells) h = tt
 
-  pub cell-ruled : (x : Line) → 2 ≤ x.code → x.code < 5 → x.mode ≡ 2 → 0 < length r.cells → HasRule (line_effect f activation (decode x) r bytes)
-  cell-ruled x low high m h = elim (cases_eq x.code 2) [ inl e ↦ at 2 e (pops and r.cells h) | inr n ↦ elim (cases_eq x.code 3) [ inl e ↦ at 3 e (pops or r.cells h) | inr k ↦ at 4 (omega arith) (pops xor r.cells h) ] ]
+  pub cell_ruled : (x : Line) → 2 ≤ x.code → x.code < 5 → x.mode ≡ 2 → 0 < length r.cells → HasRule (line_effect f activation (decode x) r bytes)
+  cell_ruled x low high m h = elim (cases_eq x.code 2) [ inl e ↦ at 2 e (pops and r.cells h) | inr n ↦ elim (cases_eq x.code 3) [ inl e ↦ at 3 e (pops or r.cells h) | inr k ↦ at 4 (omega arith) (pops xor r.cells h) ] ]
     where
       at : (n : ℕ) → x.code ≡ n → HasRule (line_effect f activation (decode (record { code = n; mode = 2; operand = x.operand })) r bytes) → HasRule (line_effect f activation (decode x) r bytes)
       at n e y =

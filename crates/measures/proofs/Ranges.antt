@@ -63,15 +63,15 @@ module _ (p : Program) (u : UnitId) (sound : Sound p u) (few : length p.lines �
   counted path = along (pos 0, pos 0) (depths_after flags) p path
 
   -- along a route both numbers are its depth
-  depth-along : {path : List ℕ} {l : ℕ} → Arrives p u path l → counted path ≡ (depth p path, depth p path)
-  depth-along (at_entry e) = refl
-  depth-along (passed {path} {l} a o w) =
+  depth_along : {path : List ℕ} {l : ℕ} → Arrives p u path l → counted path ≡ (depth p path, depth p path)
+  depth_along (at_entry e) = refl
+  depth_along (passed {path} {l} a o w) =
       let h = o.within in
       let short = sound.short a in
       let d = depth_small p (l ∷ path) in
       let whole : saturate_to_bits 31 (depth p path +ℤ change_of flags l (line_at p l)) ≡ depth p path +ℤ change p l =
       ap (λ (c : ℤ). saturate_to_bits 31 (depth p path +ℤ c)) (change_is l h) ∙ saturated_small (depth p (l ∷ path)) (suc (length path)) d.0 d.1 (omega arith) in
-      ap (depths_after flags l (line_at p l)) (depth-along a) ∙ pair whole whole
+      ap (depths_after flags l (line_at p l)) (depth_along a) ∙ pair whole whole
 
   -- the join of the depths is the lowest and the highest
   pub range : (l : ℕ) (v : ℤ × ℤ) → JoinOf wider (Brought (pos 0, pos 0) (depths_after flags) p u l) v → DepthRange p u l v.0 v.1
@@ -84,13 +84,13 @@ module _ (p : Program) (u : UnitId) (sound : Sound p u) (few : length p.lines �
       most a b e = omega (arith, ints, clamps)
 
       below : (path : List ℕ) → Arrives p u path l → v.0 ≤ℤ depth p path
-      below path a = least (depth p path) v.0 (ap (λ (x : ℤ × ℤ). x.0) (j.takes_in (depth p path, depth p path) (path, a, depth-along a)))
+      below path a = least (depth p path) v.0 (ap (λ (x : ℤ × ℤ). x.0) (j.takes_in (depth p path, depth p path) (path, a, depth_along a)))
 
       above : (path : List ℕ) → Arrives p u path l → depth p path ≤ℤ v.1
-      above path a = most (depth p path) v.1 (ap (λ (x : ℤ × ℤ). x.1) (j.takes_in (depth p path, depth p path) (path, a, depth-along a)))
+      above path a = most (depth p path) v.1 (ap (λ (x : ℤ × ℤ). x.1) (j.takes_in (depth p path, depth p path) (path, a, depth_along a)))
 
       low : (x : ℤ × ℤ) × Brought (pos 0, pos 0) (depths_after flags) p u l x × (x.0 ≡ v.0) → (path : List ℕ) × Arrives p u path l × (depth p path ≡ v.0)
-      low (x, (path, a, e), q) = (path, a, ap (λ (y : ℤ × ℤ). y.0) (sym (depth-along a) ∙ e) ∙ q)
+      low (x, (path, a, e), q) = (path, a, ap (λ (y : ℤ × ℤ). y.0) (sym (depth_along a) ∙ e) ∙ q)
 
       high : (x : ℤ × ℤ) × Brought (pos 0, pos 0) (depths_after flags) p u l x × (x.1 ≡ v.1) → (path : List ℕ) × Arrives p u path l × (depth p path ≡ v.1)
-      high (x, (path, a, e), q) = (path, a, ap (λ (y : ℤ × ℤ). y.1) (sym (depth-along a) ∙ e) ∙ q)
+      high (x, (path, a, e), q) = (path, a, ap (λ (y : ℤ × ℤ). y.1) (sym (depth_along a) ∙ e) ∙ q)

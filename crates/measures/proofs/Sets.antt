@@ -77,12 +77,12 @@ bit_tells j k h = go (cases_lt j 32)
 line_tells : (x : Line) (k : ℕ) → k < 32 → Tells (bit_at (initialised_by x) k) ((is_init x ≡ true) × (x.operand ≡ k))
 line_tells x k h = go (is_init x) refl
   where
-    with-init : is_init x ≡ true → Tells (bit_at (bit_of x.operand) k) (x.operand ≡ k) → Tells (bit_at (bit_of x.operand) k) ((is_init x ≡ true) × (x.operand ≡ k))
-    with-init e (inl a) = inl (a.0, (e, a.1))
-    with-init e (inr a) = inr (a.0, λ b. a.1 b.1)
+    with_init : is_init x ≡ true → Tells (bit_at (bit_of x.operand) k) (x.operand ≡ k) → Tells (bit_at (bit_of x.operand) k) ((is_init x ≡ true) × (x.operand ≡ k))
+    with_init e (inl a) = inl (a.0, (e, a.1))
+    with_init e (inr a) = inr (a.0, λ b. a.1 b.1)
 
     go : (b : Bool) → is_init x ≡ b → Tells (bit_at (cond b (bit_of x.operand) 0) k) ((is_init x ≡ true) × (x.operand ≡ k))
-    go true e = with-init e (bit_tells x.operand k h)
+    go true e = with_init e (bit_tells x.operand k h)
     go false e = inr (zero_bit k, λ a. both_ways (is_init x) e a.0)
 
 module _ (p : Program) where
@@ -90,11 +90,11 @@ module _ (p : Program) where
   counted path = along (set_of 0) set_after p path
 
   -- a route's bits tell which mechanisms it initialises
-  route-tells : (path : List ℕ) (k : ℕ) → k < 32 → Tells (bit_at (counted path).bits k) (Initialises p k path)
-  route-tells [] k h = inr (zero_bit k, λ z. z)
-  route-tells (l ∷ path) k h =
+  route_tells : (path : List ℕ) (k : ℕ) → k < 32 → Tells (bit_at (counted path).bits k) (Initialises p k path)
+  route_tells [] k h = inr (zero_bit k, λ z. z)
+  route_tells (l ∷ path) k h =
       subst (λ (n : ℕ). Tells n (Initialises p k (l ∷ path))) (sym (or_bit (counted path).bits (initialised_by (line_at p l)) k))
-      (either (bit_at (counted path).bits k) (bit_at (initialised_by (line_at p l)) k) (route-tells path k h) (line_tells (line_at p l) k h))
+      (either (bit_at (counted path).bits k) (bit_at (initialised_by (line_at p l)) k) (route_tells path k h) (line_tells (line_at p l) k h))
 
   -- a bit that is not in a join is not in some member
   missing : (k : ℕ) {S : MechanismSet → Type 0} {v : MechanismSet} → Built in_both S v → bit_at v.bits k ≡ 0 → (x : MechanismSet) × S x × (bit_at x.bits k ≡ 0)
@@ -109,7 +109,7 @@ module _ (p : Program) where
   by_all u few s j = record { by_each = each; not_by_one = lacking }
     where
       each : (k : ℕ) → k < length p.activation → holds s k ≡ true → (path : List ℕ) → Arrives p u path (end p u) → Initialises p k path
-      each k h e path a = go (route-tells path k (omega arith))
+      each k h e path a = go (route_tells path k (omega arith))
         where
           go : Tells (bit_at (counted path).bits k) (Initialises p k path) → Initialises p k path
           go (inl t) = t.1
@@ -131,4 +131,4 @@ module _ (p : Program) where
           tells path z (inr t) i = t.1 i
 
           go : (x : MechanismSet) × Brought (set_of 0) set_after p u (end p u) x × (bit_at x.bits k ≡ 0) → (path : List ℕ) × Arrives p u path (end p u) × (Initialises p k path → ⊥)
-          go (x, (path, a, q), z) = (path, a, tells path (ap (λ (y : MechanismSet). bit_at y.bits k) q ∙ z) (route-tells path k (omega arith)))
+          go (x, (path, a, q), z) = (path, a, tells path (ap (λ (y : MechanismSet). bit_at y.bits k) q ∙ z) (route_tells path k (omega arith)))

@@ -9,9 +9,9 @@ use Rattle.text.proofs.Shape.{formed_by_rules}
 use Rattle.walk.proofs.Givens.{lines_few, unit_real, unit_sound}
 use Rattle.measures.specs.Models.{steps_after, depths_after, wider, paired, beside}
 use Rattle.measures.specs.Meaning.{Comes, BoundsHold, DepthRange, Surveyed}
-use Rattle.measures.proofs.Longest.{comes-in, takes-at-most}
+use Rattle.measures.proofs.Longest.{comes_in, takes_at_most}
 use Rattle.measures.proofs.Ranges.{range}
-use Rattle.measures.proofs.Pairs.{left-part, right-part}
+use Rattle.measures.proofs.Pairs.{left_part, right_part}
 
 module _ (u : UnitText) (bounds : List ℕ) where
   abbrev flags : List Bool
@@ -25,10 +25,10 @@ module _ (u : UnitText) (bounds : List ℕ) where
   }
     where
       steps : (l : ℕ) (v : ℕ × (ℤ × ℤ)) → JoinOf (paired max wider) (Brought (0, (pos 0, pos 0)) (beside (steps_after bounds) (depths_after flags)) (program_of u) u.id l) v → BoundsHold (program_of u) u.id bounds → Greatest (Comes (program_of u) u.id l) v.0
-      steps l v j right = comes-in (program_of u) (formed_by_rules u.formed.now) u.id (unit_real u) bounds right l v.0 (left-part 0 (pos 0, pos 0) (steps_after bounds) (depths_after flags) (program_of u) u.id l max wider j)
+      steps l v j right = comes_in (program_of u) (formed_by_rules u.formed.now) u.id (unit_real u) bounds right l v.0 (left_part 0 (pos 0, pos 0) (steps_after bounds) (depths_after flags) (program_of u) u.id l max wider j)
 
       depths : (l : ℕ) (v : ℕ × (ℤ × ℤ)) → JoinOf (paired max wider) (Brought (0, (pos 0, pos 0)) (beside (steps_after bounds) (depths_after flags)) (program_of u) u.id l) v → DepthRange (program_of u) u.id l v.1.0 v.1.1
-      depths l v j = range (program_of u) u.id (unit_sound u) (lines_few u.formed.now) flags u.formed.now.flags_are l v.1 (right-part 0 (pos 0, pos 0) (steps_after bounds) (depths_after flags) (program_of u) u.id l max wider j)
+      depths l v j = range (program_of u) u.id (unit_sound u) (lines_few u.formed.now) flags u.formed.now.flags_are l v.1 (right_part 0 (pos 0, pos 0) (steps_after bounds) (depths_after flags) (program_of u) u.id l max wider j)
 
   pub bounded : (n : ℕ) → BoundsHold (program_of u) u.id bounds → JoinOf max (Whole 0 (steps_after bounds) (program_of u) u.id) n → Greatest (Takes (program_of u) u.id) n
-  bounded n right j = takes-at-most (program_of u) (formed_by_rules u.formed.now) u.id (unit_real u) bounds right n j
+  bounded n right j = takes_at_most (program_of u) (formed_by_rules u.formed.now) u.id (unit_real u) bounds right n j

@@ -117,14 +117,14 @@ Running (e ∷ es) = e.0 ≡ Halt → ⊥
 -- over cabinets of any type with a meaning
 module _ {X : Type 0} (M : Meaning X) where
   -- what a call that leaves the memory m does to the cabinet: a scan sends the outputs and advances, clear and halt send them, the others touch nothing
-  abbrev pub Cabinet-after : Call → X → Memory → X → Type 0
-  Cabinet-after Scan x m z = (y : X) × Sent M x (outputs m) y × Advanced M y z
-  Cabinet-after Clear x m z = Sent M x (outputs m) z
-  Cabinet-after BlockStart x m z = z ≡ x
-  Cabinet-after PositionReport x m z = z ≡ x
-  Cabinet-after Halt x m z = Sent M x (outputs m) z
+  abbrev pub CabinetAfter : Call → X → Memory → X → Type 0
+  CabinetAfter Scan x m z = (y : X) × Sent M x (outputs m) y × Advanced M y z
+  CabinetAfter Clear x m z = Sent M x (outputs m) z
+  CabinetAfter BlockStart x m z = z ≡ x
+  CabinetAfter PositionReport x m z = z ≡ x
+  CabinetAfter Halt x m z = Sent M x (outputs m) z
 
   -- a session so far: its start with the start's answer, and the calls with their answers, the newest first; nothing follows a halt
   pub data Session (p : Program) (x₀ : X) (first-answer : Answer) : List (Call × Answer) → Machine → X → Type 0 where
     started : {after : Machine} {y : X} → Starts p first-answer after → Sent M x₀ (outputs after.memory) y → Session p x₀ first-answer [] after y
-    called : {done : List (Call × Answer)} {before after : Machine} {x y : X} {c : Call} {r : Answer} → Session p x₀ first-answer done before x → Running done → Outcome p (M.inputs x) before c r after → Cabinet-after c x after.memory y → Session p x₀ first-answer ((c, r) ∷ done) after y
+    called : {done : List (Call × Answer)} {before after : Machine} {x y : X} {c : Call} {r : Answer} → Session p x₀ first-answer done before x → Running done → Outcome p (M.inputs x) before c r after → CabinetAfter c x after.memory y → Session p x₀ first-answer ((c, r) ∷ done) after y

@@ -17,14 +17,14 @@ use Rattle.verdict.specs.declared.accepted.Accepted.{Accepted}
 use Rattle.verdict.proofs.Kept.{accepted}
 use Rattle.machine.specs.Views.{program_of}
 use Rattle.rules.specs.Session as rules
-use Rattle.rules.specs.Session.{Machine, Session, started, called, Outcome, Cabinet-after}
+use Rattle.rules.specs.Session.{Machine, Session, started, called, Outcome, CabinetAfter}
 use Rattle.session.specs.declared.call.SessionCall.{SessionCall}
 use Rattle.session.specs.declared.call.SessionCall.TheVariants.{Scan, Clear, BlockStart, PositionReport}
 use Rattle.session.specs.declared.running.Running.{Running}
 use Rattle.session.specs.declared.running.Halted.{Halted}
 use Rattle.session.specs.Calls.{call_of, last_call}
-use Rattle.session.specs.States.{program-in, machine-in, machine-at-halt}
-use Rattle.session.specs.Called.{Started, Called, Halted-from}
+use Rattle.session.specs.States.{program_in, machine_in, machine_at_halt}
+use Rattle.session.specs.Called.{Started, Called, HaltedFrom}
 use Rattle.session.specs.Conducted.{Stands}
 
 no_halt : (s : SessionCall) → call_of s ≡ Halt → ⊥
@@ -36,19 +36,19 @@ no_halt PositionReport e = let z : ◌≡◌ {A = ℕ} 0 1 = cc in omega arith
 module _ {C : Type 0} (M : Meaning C) (p : Program) (x₀ : C) where
   -- so many of the calls have been made of a running program, and answered
   pub record Going (calls : List SessionCall) (i : ℕ) (done : List (Call × Answer)) (r : Running C) : Type 0 where
-    pub same-program : program-in r ≡ p
+    pub same_program : program_in r ≡ p
     pub calls_are : map (λ e. e.0) done ≡ map call_of (take i calls)
-    pub session : Session M p x₀ (Done Idle) (reverse done) (machine-in r) r.cabinet
+    pub session : Session M p x₀ (Done Idle) (reverse done) (machine_in r) r.cabinet
     pub unhalted : rules.Running (reverse done)
 
   pub begun : (calls : List SessionCall) (done : List (Call × Answer)) (r : Running C) → done ≡ [] → Started M p x₀ r → Going calls 0 done r
-  begun calls done r e s = subst (λ (d : List (Call × Answer)). Going calls 0 d r) (sym e) (record { same-program = s.same-program; calls_are = refl; session = started s.starts s.sends; unhalted = tt })
+  begun calls done r e s = subst (λ (d : List (Call × Answer)). Going calls 0 d r) (sym e) (record { same_program = s.same_program; calls_are = refl; session = started s.starts s.sends; unhalted = tt })
 
   -- one call more, the newest
   newest : (done : List (Call × Answer)) (e : Call × Answer) → e ∷ reverse done ≡ reverse (done ++ e ∷ [])
   newest done e = sym (reverse_aux-append done (e ∷ []) [])
 
-  further : (done : List (Call × Answer)) (machine after : Machine) (x y : C) (q : Program) (c : Call) (a : Answer) → q ≡ p → Session M p x₀ (Done Idle) (reverse done) machine x → rules.Running (reverse done) → Outcome q (M.inputs x) machine c a after → Cabinet-after M c x after.memory y → Session M p x₀ (Done Idle) (reverse (done ++ (c, a) ∷ [])) after y
+  further : (done : List (Call × Answer)) (machine after : Machine) (x y : C) (q : Program) (c : Call) (a : Answer) → q ≡ p → Session M p x₀ (Done Idle) (reverse done) machine x → rules.Running (reverse done) → Outcome q (M.inputs x) machine c a after → CabinetAfter M c x after.memory y → Session M p x₀ (Done Idle) (reverse (done ++ (c, a) ∷ [])) after y
   further done machine after x y q c a e s u o v =
       subst (λ (d : List (Call × Answer)). Session M p x₀ (Done Idle) d after y) (newest done (c, a)) (called s u (subst (λ (z : Program). Outcome z (M.inputs x) machine c a after) e o) v)
 
@@ -57,31 +57,31 @@ module _ {C : Type 0} (M : Meaning C) (p : Program) (x₀ : C) where
       let b = call_of (get_or calls i d) in
       let q : done' ≡ done ++ (b, a) ∷ [] = e ∙ ap (λ (z : Call). done ++ (z, a) ∷ []) f in
       subst (λ (x : List (Call × Answer)). Going calls (i + 1) x r') (sym q) (record {
-        same-program = s.same-program ∙ w.same-program;
+        same_program = s.same_program ∙ w.same_program;
         calls_are = map-append (λ e. e.0) done ((b, a) ∷ []) ∙ ap (λ (x : List Call). x ++ b ∷ []) w.calls_are ∙ sym (map-append call_of (take i calls) (get_or calls i d ∷ [])) ∙ ap (map call_of) (sym (take_more calls i d h));
-        session = further done (machine-in r) (machine-in r') r.cabinet r'.cabinet (program-in r) b a w.same-program w.session w.unhalted s.comes s.cabinet-after;
+        session = further done (machine_in r) (machine_in r') r.cabinet r'.cabinet (program_in r) b a w.same_program w.session w.unhalted s.comes s.cabinet_after;
         unhalted = subst rules.Running (newest done (b, a)) (no_halt (get_or calls i d));
       })
 
   -- all calls have been made
-  all-calls : (calls : List SessionCall) (i : ℕ) (done : List (Call × Answer)) (r : Running C) → length calls ≤ i → Going calls i done r → map (λ e. e.0) done ≡ map call_of calls
-  all-calls calls i done r h w = w.calls_are ∙ ap (map call_of) (take_all i calls h)
+  all_calls : (calls : List SessionCall) (i : ℕ) (done : List (Call × Answer)) (r : Running C) → length calls ≤ i → Going calls i done r → map (λ e. e.0) done ≡ map call_of calls
+  all_calls calls i done r h w = w.calls_are ∙ ap (map call_of) (take_all i calls h)
 
   -- how a session ends that is not halted, and one that is
-  pub unhalted-calls : (calls : List SessionCall) (i : ℕ) (done : List (Call × Answer)) (r : Running C) (halts : Bool) → length calls ≤ i → halts ≡ false → Going calls i done r → map (λ e. e.0) done ≡ map call_of calls ++ last_call halts
-  unhalted-calls calls i done r halts h e w = all-calls calls i done r h w ∙ sym (append-nil (map call_of calls)) ∙ ap (λ (b : Bool). map call_of calls ++ last_call b) (sym e)
+  pub unhalted_calls : (calls : List SessionCall) (i : ℕ) (done : List (Call × Answer)) (r : Running C) (halts : Bool) → length calls ≤ i → halts ≡ false → Going calls i done r → map (λ e. e.0) done ≡ map call_of calls ++ last_call halts
+  unhalted_calls calls i done r halts h e w = all_calls calls i done r h w ∙ sym (append-nil (map call_of calls)) ∙ ap (λ (b : Bool). map call_of calls ++ last_call b) (sym e)
 
-  pub halted-calls : (calls : List SessionCall) (i : ℕ) (done done' : List (Call × Answer)) (r : Running C) (halts : Bool) (a : Answer) → length calls ≤ i → halts ≡ true → done' ≡ done ++ (Halt, a) ∷ [] → Going calls i done r → map (λ e. e.0) done' ≡ map call_of calls ++ last_call halts
-  halted-calls calls i done done' r halts a h e q w =
-      ap (map (λ e. e.0)) q ∙ map-append (λ e. e.0) done ((Halt, a) ∷ []) ∙ ap (λ (x : List Call). x ++ Halt ∷ []) (all-calls calls i done r h w) ∙ ap (λ (b : Bool). map call_of calls ++ last_call b) (sym e)
+  pub halted_calls : (calls : List SessionCall) (i : ℕ) (done done' : List (Call × Answer)) (r : Running C) (halts : Bool) (a : Answer) → length calls ≤ i → halts ≡ true → done' ≡ done ++ (Halt, a) ∷ [] → Going calls i done r → map (λ e. e.0) done' ≡ map call_of calls ++ last_call halts
+  halted_calls calls i done done' r halts a h e q w =
+      ap (map (λ e. e.0)) q ∙ map-append (λ e. e.0) done ((Halt, a) ∷ []) ∙ ap (λ (x : List Call). x ++ Halt ∷ []) (all_calls calls i done r h w) ∙ ap (λ (b : Bool). map call_of calls ++ last_call b) (sym e)
 
-  pub halted-session : (calls : List SessionCall) (i : ℕ) (done done' : List (Call × Answer)) (r : Running C) (h : Halted C) → done' ≡ done ++ (Halt, Done h.phase) ∷ [] → Going calls i done r → Halted-from M r h → Session M p x₀ (Done Idle) (reverse done') (machine-at-halt h) h.cabinet
-  halted-session calls i done done' r h q w s =
-      subst (λ (d : List (Call × Answer)). Session M p x₀ (Done Idle) (reverse d) (machine-at-halt h) h.cabinet) (sym q)
-      (further done (machine-in r) (machine-at-halt h) r.cabinet h.cabinet (program-in r) Halt (Done h.phase) w.same-program w.session w.unhalted s.comes s.cabinet-after)
+  pub halted_session : (calls : List SessionCall) (i : ℕ) (done done' : List (Call × Answer)) (r : Running C) (h : Halted C) → done' ≡ done ++ (Halt, Done h.phase) ∷ [] → Going calls i done r → HaltedFrom M r h → Session M p x₀ (Done Idle) (reverse done') (machine_at_halt h) h.cabinet
+  halted_session calls i done done' r h q w s =
+      subst (λ (d : List (Call × Answer)). Session M p x₀ (Done Idle) (reverse d) (machine_at_halt h) h.cabinet) (sym q)
+      (further done (machine_in r) (machine_at_halt h) r.cabinet h.cabinet (program_in r) Halt (Done h.phase) w.same_program w.session w.unhalted s.comes s.cabinet_after)
 
-  pub left-session : (calls : List SessionCall) (i : ℕ) (done : List (Call × Answer)) (r : Running C) (machine : Machine) (x : C) → machine ≡ machine-in r → x ≡ r.cabinet → Going calls i done r → Session M p x₀ (Done Idle) (reverse done) machine x
-  left-session calls i done r machine x e f w = subst (λ (y : C). Session M p x₀ (Done Idle) (reverse done) machine y) (sym f) (subst (λ (m : Machine). Session M p x₀ (Done Idle) (reverse done) m r.cabinet) (sym e) w.session)
+  pub left_session : (calls : List SessionCall) (i : ℕ) (done : List (Call × Answer)) (r : Running C) (machine : Machine) (x : C) → machine ≡ machine_in r → x ≡ r.cabinet → Going calls i done r → Session M p x₀ (Done Idle) (reverse done) machine x
+  left_session calls i done r machine x e f w = subst (λ (y : C). Session M p x₀ (Done Idle) (reverse done) machine y) (sym f) (subst (λ (m : Machine). Session M p x₀ (Done Idle) (reverse done) m r.cabinet) (sym e) w.session)
 
 -- THE PROMISE
 

@@ -31,29 +31,29 @@ exits_begin x true e h = absurd (let z : true ≡ false = sym h ∙ ap (λ (c : 
 
 module _ (p : Program) where
   -- after an EX-type line comes the next one
-  exit-after : (l : ℕ) → is_exit (line_at p l) ≡ true → after p l ≡ l + 1
-  exit-after l h = ap (λ (b : Bool). cond b (end_line p (line_at p l).operand + 1) (l + 1)) (exits_begin (line_at p l) (is_begin (line_at p l)) refl h)
+  exit_after : (l : ℕ) → is_exit (line_at p l) ≡ true → after p l ≡ l + 1
+  exit_after l h = ap (λ (b : Bool). cond b (end_line p (line_at p l).operand + 1) (l + 1)) (exits_begin (line_at p l) (is_begin (line_at p l)) refl h)
 
   module _ (u : UnitId) where
-    past-exit : (e : ℕ) → Own p u e ⊎ (Own p u e → ⊥) → (b : Bool) → is_exit (line_at p e) ≡ b → (suc e ≡ first p u → ⊥) → Entry p u (suc e) ⊎ (Entry p u (suc e) → ⊥)
-    past-exit e (inl o) true x n = inl (inr (e, o, x, (let q = exit-after e x in omega arith)))
-    past-exit e (inl o) false x n = inr (λ h. ⊎_elim n (λ k. (let q = exit-after k.0 k.2 in let s : k.0 ≡ e = (let t = k.3 in omega arith) in let z : true ≡ false = sym k.2 ∙ ap (λ (j : ℕ). is_exit (line_at p j)) s ∙ x in let y : ◌≡◌ {A = ℕ} 0 1 = cc in omega arith)) h)
-    past-exit e (inr o) b x n = inr (λ h. ⊎_elim n (λ k. (let q = exit-after k.0 k.2 in let s : k.0 ≡ e = (let t = k.3 in omega arith) in o (subst (Own p u) s k.1))) h)
+    past_exit : (e : ℕ) → Own p u e ⊎ (Own p u e → ⊥) → (b : Bool) → is_exit (line_at p e) ≡ b → (suc e ≡ first p u → ⊥) → Entry p u (suc e) ⊎ (Entry p u (suc e) → ⊥)
+    past_exit e (inl o) true x n = inl (inr (e, o, x, (let q = exit_after e x in omega arith)))
+    past_exit e (inl o) false x n = inr (λ h. ⊎_elim n (λ k. (let q = exit_after k.0 k.2 in let s : k.0 ≡ e = (let t = k.3 in omega arith) in let z : true ≡ false = sym k.2 ∙ ap (λ (j : ℕ). is_exit (line_at p j)) s ∙ x in let y : ◌≡◌ {A = ℕ} 0 1 = cc in omega arith)) h)
+    past_exit e (inr o) b x n = inr (λ h. ⊎_elim n (λ k. (let q = exit_after k.0 k.2 in let s : k.0 ≡ e = (let t = k.3 in omega arith) in o (subst (Own p u) s k.1))) h)
 
     -- whether a line is where a route begins is decided
-    entry-decided : (l : ℕ) → Entry p u l ⊎ (Entry p u l → ⊥)
-    entry-decided l = elim (cases_eq l (first p u)) [ inl e ↦ inl (inl e) | inr n ↦ go l n ]
+    entry_decided : (l : ℕ) → Entry p u l ⊎ (Entry p u l → ⊥)
+    entry_decided l = elim (cases_eq l (first p u)) [ inl e ↦ inl (inl e) | inr n ↦ go l n ]
       where
         go : (k : ℕ) → (k ≡ first p u → ⊥) → Entry p u k ⊎ (Entry p u k → ⊥)
-        go zero n = inr (λ h. ⊎_elim n (λ k. (let q = exit-after k.0 k.2 in let t = k.3 in omega arith)) h)
-        go (suc e) n = past-exit e (owned p u e) (is_exit (line_at p e)) refl n
+        go zero n = inr (λ h. ⊎_elim n (λ k. (let q = exit_after k.0 k.2 in let t = k.3 in omega arith)) h)
+        go (suc e) n = past_exit e (owned p u e) (is_exit (line_at p e)) refl n
 
 -- what the type keeps of the memory is that it fits
 pub fits : (a : Accepted) (m : Memory) → vec_len m.bytes ≡ vec_len a.formed.program.initial → vec_len m.points ≡ vec_len a.formed.program.activation → PointsStand (program_of a) (memory_of m) → Fitting (program_of a) (memory_of m)
 fits a m b k s = record {
   bytes_fit = sym m.bytes.ok.0 ∙ b ∙ a.formed.program.initial.ok.0;
   points_fit = sym m.points.ok.0 ∙ k ∙ a.formed.program.activation.ok.0;
-  pointed = λ u r q. sure (entry-decided (program_of a) u (point (program_of a) (memory_of m) u)) (s u r q);
+  pointed = λ u r q. sure (entry_decided (program_of a) u (point (program_of a) (memory_of m) u)) (s u r q);
 }
 
 -- and a memory that fits is kept so

@@ -16,12 +16,12 @@ use Rattle.session.specs.Calls.{call_of, last_call}
 
 module _ {C : Type 0} where
   -- the calls with their answers, the oldest first
-  abbrev pub transcript-of : Conducted C → List (Call × Answer)
-  transcript-of t = vec_items t.transcript
+  abbrev pub transcript_of : Conducted C → List (Call × Answer)
+  transcript_of t = vec_items t.transcript
 
   -- the data, points and phase that a session left
-  abbrev pub machine-left : Conducted C → Machine
-  machine-left t = record { memory = memory_of t.memory; phase = t.phase }
+  abbrev pub machine_left : Conducted C → Machine
+  machine_left t = record { memory = memory_of t.memory; phase = t.phase }
 
 module _ {C : Type 0} (M : Meaning C) where
   -- a session so far, with so many of its calls, and all that a certificate guarantees of it there
@@ -36,10 +36,10 @@ module _ {C : Type 0} (M : Meaning C) where
     -- the certificate is the program's: LINES and STACK as defined, no choice of a scan's routes has more steps than SCAN, and some choice has as many
     pub certified : Certified p t.certificate.lines t.certificate.stack t.certificate.scan
     -- the calls were made in their order
-    pub calls_are : map (λ e. e.0) (transcript-of t) ≡ map call_of calls ++ last_call halts
+    pub calls_are : map (λ e. e.0) (transcript_of t) ≡ map call_of calls ++ last_call halts
     -- the session is one by the rules: its answers, its data, points and phase, and its cabinet
-    pub session : Session M p x₀ (Done Idle) (reverse (transcript-of t)) (machine-left t) t.cabinet
+    pub session : Session M p x₀ (Done Idle) (reverse (transcript_of t)) (machine_left t) t.cabinet
     -- after the start and after each call, so without the last k of them for any k, the session is one by the rules and keeps all that is guaranteed
-    pub throughout : (k : ℕ) → Stands p t.certificate.stack t.certificate.scan x₀ (drop k (reverse (transcript-of t)))
+    pub throughout : (k : ℕ) → Stands p t.certificate.stack t.certificate.scan x₀ (drop k (reverse (transcript_of t)))
     -- and so does every other session of the program on a cabinet of this kind
     pub guaranteed : Guaranteed M p t.certificate.stack t.certificate.scan

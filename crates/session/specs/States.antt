@@ -7,13 +7,13 @@ use Rattle.session.specs.declared.running.Running.{Running}
 
 module _ {C : Type 0} where
   -- the program that runs
-  abbrev pub program-in : Running C → Program
-  program-in r = program_of r.program.now
+  abbrev pub program_in : Running C → Program
+  program_in r = program_of r.program.now
 
   -- its data, points and phase
-  abbrev pub machine-in : Running C → Machine
-  machine-in r = record { memory = memory_of r.memory; phase = r.phase }
+  abbrev pub machine_in : Running C → Machine
+  machine_in r = record { memory = memory_of r.memory; phase = r.phase }
 
   -- the data, points and phase at the halt
-  abbrev pub machine-at-halt : Halted C → Machine
-  machine-at-halt h = record { memory = memory_of h.memory; phase = h.phase }
+  abbrev pub machine_at_halt : Halted C → Machine
+  machine_at_halt h = record { memory = memory_of h.memory; phase = h.phase }

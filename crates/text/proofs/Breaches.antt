@@ -34,43 +34,43 @@ module _ (p : Program) (n : ℕ) (P : ℕ → Type 0) (to : (l : ℕ) → P l �
       go (inr d) = keeps r l (omega arith) b
 
 module _ (p : Program) where
-  is-bad-mechanism : (l : ℕ) → Breaks p 8 l → IsBadMechanism p l
-  is-bad-mechanism l b = breach (IsBadMechanism p l) b (λ e _. absurd (omega arith)) (λ e _. absurd (omega arith)) (λ _ h. h) (λ e _. absurd (omega arith)) (λ e _. absurd (omega arith)) (λ e _. absurd (omega arith)) (λ g. absurd (omega arith))
+  is_bad_mechanism : (l : ℕ) → Breaks p 8 l → IsBadMechanism p l
+  is_bad_mechanism l b = breach (IsBadMechanism p l) b (λ e _. absurd (omega arith)) (λ e _. absurd (omega arith)) (λ _ h. h) (λ e _. absurd (omega arith)) (λ e _. absurd (omega arith)) (λ e _. absurd (omega arith)) (λ g. absurd (omega arith))
 
-  is-bad-jump : (l : ℕ) → Breaks p 9 l → IsBadJump p l
-  is-bad-jump l b = breach (IsBadJump p l) b (λ e _. absurd (omega arith)) (λ e _. absurd (omega arith)) (λ e _. absurd (omega arith)) (λ _ h. h) (λ e _. absurd (omega arith)) (λ e _. absurd (omega arith)) (λ g. absurd (omega arith))
+  is_bad_jump : (l : ℕ) → Breaks p 9 l → IsBadJump p l
+  is_bad_jump l b = breach (IsBadJump p l) b (λ e _. absurd (omega arith)) (λ e _. absurd (omega arith)) (λ e _. absurd (omega arith)) (λ _ h. h) (λ e _. absurd (omega arith)) (λ e _. absurd (omega arith)) (λ g. absurd (omega arith))
 
-  is-bad-exit : (l : ℕ) → Breaks p 10 l → IsBadExit p l
-  is-bad-exit l b = breach (IsBadExit p l) b (λ e _. absurd (omega arith)) (λ e _. absurd (omega arith)) (λ e _. absurd (omega arith)) (λ e _. absurd (omega arith)) (λ _ h. h) (λ e _. absurd (omega arith)) (λ g. absurd (omega arith))
+  is_bad_exit : (l : ℕ) → Breaks p 10 l → IsBadExit p l
+  is_bad_exit l b = breach (IsBadExit p l) b (λ e _. absurd (omega arith)) (λ e _. absurd (omega arith)) (λ e _. absurd (omega arith)) (λ e _. absurd (omega arith)) (λ _ h. h) (λ e _. absurd (omega arith)) (λ g. absurd (omega arith))
 
-  is-bad-init : (l : ℕ) → Breaks p 11 l → IsBadInit p l
-  is-bad-init l b = breach (IsBadInit p l) b (λ e _. absurd (omega arith)) (λ e _. absurd (omega arith)) (λ e _. absurd (omega arith)) (λ e _. absurd (omega arith)) (λ e _. absurd (omega arith)) (λ _ h. h) (λ g. absurd (omega arith))
+  is_bad_init : (l : ℕ) → Breaks p 11 l → IsBadInit p l
+  is_bad_init l b = breach (IsBadInit p l) b (λ e _. absurd (omega arith)) (λ e _. absurd (omega arith)) (λ e _. absurd (omega arith)) (λ e _. absurd (omega arith)) (λ e _. absurd (omega arith)) (λ _ h. h) (λ g. absurd (omega arith))
 
   -- rule by rule: the refusal, or the next rule
 
-  pub refuse-8 : Keeps p 8 → (l : ℕ) → Finds (IsBadMechanism p) (Some l) → TextRefused p 8 l
-  refuse-8 = refuse p 8 (IsBadMechanism p) (λ l. by_bad_mechanism refl) is-bad-mechanism
+  pub refuse_8 : Keeps p 8 → (l : ℕ) → Finds (IsBadMechanism p) (Some l) → TextRefused p 8 l
+  refuse_8 = refuse p 8 (IsBadMechanism p) (λ l. by_bad_mechanism refl) is_bad_mechanism
 
-  pub past-8 : Keeps p 8 → Finds (IsBadMechanism p) None → Keeps p 9
-  past-8 = go_on p 8 (IsBadMechanism p) (λ l. by_bad_mechanism refl) is-bad-mechanism
+  pub past_8 : Keeps p 8 → Finds (IsBadMechanism p) None → Keeps p 9
+  past_8 = go_on p 8 (IsBadMechanism p) (λ l. by_bad_mechanism refl) is_bad_mechanism
 
-  pub refuse-9 : Keeps p 9 → (l : ℕ) → Finds (IsBadJump p) (Some l) → TextRefused p 9 l
-  refuse-9 = refuse p 9 (IsBadJump p) (λ l. by_bad_jump refl) is-bad-jump
+  pub refuse_9 : Keeps p 9 → (l : ℕ) → Finds (IsBadJump p) (Some l) → TextRefused p 9 l
+  refuse_9 = refuse p 9 (IsBadJump p) (λ l. by_bad_jump refl) is_bad_jump
 
-  pub past-9 : Keeps p 9 → Finds (IsBadJump p) None → Keeps p 10
-  past-9 = go_on p 9 (IsBadJump p) (λ l. by_bad_jump refl) is-bad-jump
+  pub past_9 : Keeps p 9 → Finds (IsBadJump p) None → Keeps p 10
+  past_9 = go_on p 9 (IsBadJump p) (λ l. by_bad_jump refl) is_bad_jump
 
-  pub refuse-10 : Keeps p 10 → (l : ℕ) → Finds (IsBadExit p) (Some l) → TextRefused p 10 l
-  refuse-10 = refuse p 10 (IsBadExit p) (λ l. by_bad_exit refl) is-bad-exit
+  pub refuse_10 : Keeps p 10 → (l : ℕ) → Finds (IsBadExit p) (Some l) → TextRefused p 10 l
+  refuse_10 = refuse p 10 (IsBadExit p) (λ l. by_bad_exit refl) is_bad_exit
 
-  pub past-10 : Keeps p 10 → Finds (IsBadExit p) None → Keeps p 11
-  past-10 = go_on p 10 (IsBadExit p) (λ l. by_bad_exit refl) is-bad-exit
+  pub past_10 : Keeps p 10 → Finds (IsBadExit p) None → Keeps p 11
+  past_10 = go_on p 10 (IsBadExit p) (λ l. by_bad_exit refl) is_bad_exit
 
-  pub refuse-11 : Keeps p 11 → (l : ℕ) → Finds (IsBadInit p) (Some l) → TextRefused p 11 l
-  refuse-11 = refuse p 11 (IsBadInit p) (λ l. by_bad_init refl) is-bad-init
+  pub refuse_11 : Keeps p 11 → (l : ℕ) → Finds (IsBadInit p) (Some l) → TextRefused p 11 l
+  refuse_11 = refuse p 11 (IsBadInit p) (λ l. by_bad_init refl) is_bad_init
 
-  pub past-11 : Keeps p 11 → Finds (IsBadInit p) None → Keeps p 12
-  past-11 = go_on p 11 (IsBadInit p) (λ l. by_bad_init refl) is-bad-init
+  pub past_11 : Keeps p 11 → Finds (IsBadInit p) None → Keeps p 12
+  past_11 = go_on p 11 (IsBadInit p) (λ l. by_bad_init refl) is_bad_init
 
   -- a MECH_BEGIN that is known names a mechanism that serves
   pub named_by : Keeps p 8 → Named p

@@ -29,15 +29,15 @@ module _ (xs : List Line) (i : ℕ) (x : Line) (h : i < length xs) (f : Line →
   found_here : x ≡ get_or xs i x → f x ≡ true → i + find f (drop i xs) ≡ i
   found_here e t = let q = step e ∙ cond-true (f x) 0 (1 + find f (drop (i + 1) xs)) t in omega arith
 
-  found-later : x ≡ get_or xs i x → f x ≡ false → i + 1 + find f (drop (i + 1) xs) ≡ i + find f (drop i xs)
-  found-later e t = let q = step e ∙ cond-false (f x) 0 (1 + find f (drop (i + 1) xs)) t in omega arith
+  found_later : x ≡ get_or xs i x → f x ≡ false → i + 1 + find f (drop (i + 1) xs) ≡ i + find f (drop i xs)
+  found_later e t = let q = step e ∙ cond-false (f x) 0 (1 + find f (drop (i + 1) xs)) t in omega arith
 
 module _ (xs : List Line) (code : ℕ) (table : List ℕ) (m n i : ℕ) (x : Line) (h : i < length xs) (e : x ≡ get_or xs i x) (next : n ≡ i + 1) (before : Firsts xs code table m n) where
   passed : (k : ℕ) → k < m → names code k x ≡ false → get_or table k 0 ≡ i + find (names code k) (drop i xs)
-  passed k g t = before k g ∙ ap (λ (j : ℕ). j + find (names code k) (drop j xs)) next ∙ found-later xs i x h (names code k) e t
+  passed k g t = before k g ∙ ap (λ (j : ℕ). j + find (names code k) (drop j xs)) next ∙ found_later xs i x h (names code k) e t
 
-  pub first-set : (o : ℕ) → o ≡ x.operand → length table ≡ m → x.code ≡ code → Firsts xs code (set table o i) m i
-  first-set o is long c k g = go (cases_eq k o)
+  pub first_set : (o : ℕ) → o ≡ x.operand → length table ≡ m → x.code ≡ code → Firsts xs code (set table o i) m i
+  first_set o is long c k g = go (cases_eq k o)
     where
       go : (k ≡ o) ⊎ (k ≡ o → ⊥) → get_or (set table o i) k 0 ≡ i + find (names code k) (drop i xs)
       go (inl q) =
@@ -45,8 +45,8 @@ module _ (xs : List Line) (code : ℕ) (table : List ℕ) (m n i : ℕ) (x : Lin
           ap (λ (j : ℕ). get_or (set table o i) j 0) q ∙ get_or-set_same table o i 0 (omega arith) ∙ sym (found_here xs i x h (names code k) e t)
       go (inr d) = get_or-set_other table o k i 0 d ∙ passed k g (and_right (eqb x.code code) (eqb x.operand k) (ne_eqb x.operand k (λ q. d (sym (is ∙ q)))))
 
-  pub first-kept : (x.code ≡ code → x.operand < m → ⊥) → Firsts xs code table m i
-  first-kept d k g = go (cases_Bool (names code k x))
+  pub first_kept : (x.code ≡ code → x.operand < m → ⊥) → Firsts xs code table m i
+  first_kept d k g = go (cases_Bool (names code k x))
     where
       go : (names code k x ≡ true) ⊎ (names code k x ≡ false) → get_or table k 0 ≡ i + find (names code k) (drop i xs)
       go (inl t) = let q = and_parts (eqb x.code code) (eqb x.operand k) t in let r = eqb-true x.operand k q.1 in absurd (d (eqb-true x.code code q.0) (omega arith))

@@ -17,10 +17,10 @@ module_below (n ∷ ns) l h = go (ltb l n) refl (module_below ns (l - n))
 pub numbered : (p : Program) (l : ℕ) → l < total p.lengths → length p.lengths ≡ 7 → Numbered (unit_of p l)
 numbered p l h seven = go (eqb (module_of p.lengths l) main_module) (open_at p l)
   where
-    open-mechanism : (o : Option ℕ) → Numbered (main_or o)
-    open-mechanism None = omega arith
-    open-mechanism (Some k) = tt
+    open_mechanism : (o : Option ℕ) → Numbered (main_or o)
+    open_mechanism None = omega arith
+    open_mechanism (Some k) = tt
 
     go : (b : Bool) (o : Option ℕ) → Numbered (cond b (main_or o) (Module (module_of p.lengths l)))
-    go true o = open-mechanism o
+    go true o = open_mechanism o
     go false o = let q = module_below p.lengths l h in omega arith

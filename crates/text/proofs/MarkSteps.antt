@@ -31,18 +31,18 @@ module _ (p : Program) (first i : ℕ) (x : Line) (from : first ≤ i) (inside :
   more : stretch p.lines first (i + 1) ≡ stretch p.lines first i ++ x ∷ []
   more = stretch_more p.lines first i no_line from inside ∙ ap (λ y. stretch p.lines first i ++ y ∷ []) (sym there)
 
-  pub opened-more : (o : Option ℕ) → o ≡ open_after None (stretch p.lines first i) → open_after o (x ∷ []) ≡ open_after None (stretch p.lines first (i + 1))
-  opened-more o e = ap (λ q. open_after q (x ∷ [])) e ∙ sym (open_push None (stretch p.lines first i) x) ∙ ap (open_after None) (sym more)
+  pub opened_more : (o : Option ℕ) → o ≡ open_after None (stretch p.lines first i) → open_after o (x ∷ []) ≡ open_after None (stretch p.lines first (i + 1))
+  opened_more o e = ap (λ q. open_after q (x ∷ [])) e ∙ sym (open_push None (stretch p.lines first i) x) ∙ ap (open_after None) (sym more)
 
-  pub flagged-more : (b : Bool) → b ≡ flag_after false (stretch p.lines first i) → flag_after b (x ∷ []) ≡ flag_after false (stretch p.lines first (i + 1))
-  flagged-more b e = ap (λ q. flag_after q (x ∷ [])) e ∙ sym (flag_push false (stretch p.lines first i) x) ∙ ap (flag_after false) (sym more)
+  pub flagged_more : (b : Bool) → b ≡ flag_after false (stretch p.lines first i) → flag_after b (x ∷ []) ≡ flag_after false (stretch p.lines first (i + 1))
+  flagged_more b e = ap (λ q. flag_after q (x ∷ [])) e ∙ sym (flag_push false (stretch p.lines first i) x) ∙ ap (flag_after false) (sym more)
 
 module _ (p : Program) (m i : ℕ) (in-module : module_of p.lengths i ≡ m) where
-  pub unit-in-main : (o : Option ℕ) → m ≡ main_module → o ≡ open_after None (stretch p.lines (module_first p m) i) → main_or o ≡ unit_of p i
-  unit-in-main o e h = ap main_or (h ∙ ap (λ (n : ℕ). open_after None (stretch p.lines (module_first p n) i)) e) ∙ sym (cond-true (eqb (module_of p.lengths i) main_module) (main_or (open_at p i)) (Module (module_of p.lengths i)) (eq-eqb (module_of p.lengths i) main_module (in-module ∙ e)))
+  pub unit_in_main : (o : Option ℕ) → m ≡ main_module → o ≡ open_after None (stretch p.lines (module_first p m) i) → main_or o ≡ unit_of p i
+  unit_in_main o e h = ap main_or (h ∙ ap (λ (n : ℕ). open_after None (stretch p.lines (module_first p n) i)) e) ∙ sym (cond-true (eqb (module_of p.lengths i) main_module) (main_or (open_at p i)) (Module (module_of p.lengths i)) (eq-eqb (module_of p.lengths i) main_module (in-module ∙ e)))
 
-  pub unit-elsewhere : (m ≡ main_module → ⊥) → Module m ≡ unit_of p i
-  unit-elsewhere n = ap Module (sym in-module) ∙ sym (cond-false (eqb (module_of p.lengths i) main_module) (main_or (open_at p i)) (Module (module_of p.lengths i)) (ne_eqb (module_of p.lengths i) main_module (λ e. n (sym in-module ∙ e))))
+  pub unit_elsewhere : (m ≡ main_module → ⊥) → Module m ≡ unit_of p i
+  unit_elsewhere n = ap Module (sym in-module) ∙ sym (cond-false (eqb (module_of p.lengths i) main_module) (main_or (open_at p i)) (Module (module_of p.lengths i)) (ne_eqb (module_of p.lengths i) main_module (λ e. n (sym in-module ∙ e))))
 
   pub flag_is : (b : Bool) → b ≡ flag_after false (stretch p.lines (module_first p m) i) → b ≡ flag_at p i
   flag_is b h = h ∙ ap (λ (n : ℕ). flag_after false (stretch p.lines (module_first p n) i)) (sym in-module)

@@ -34,13 +34,13 @@ zeros_at (suc n) zero = refl
 zeros_at (suc n) (suc i) = zeros_at n i
 
 pub shaped : Shaped gate
-shaped = record { counts = in-range; bytes_small = small; activation_inside = one; all_lines = refl }
+shaped = record { counts = in_range; bytes_small = small; activation_inside = one; all_lines = refl }
   where
-    in-range : (s : Section) → (least_count s ≤ records gate s) × (records gate s ≤ most_count s)
-    in-range data_section = (lit≤ tt, lit≤ tt)
-    in-range mechanism_section = (lit≤ tt, lit≤ tt)
-    in-range module_section = (lit≤ tt, lit≤ tt)
-    in-range line_section = (lit≤ tt, lit≤ tt)
+    in_range : (s : Section) → (least_count s ≤ records gate s) × (records gate s ≤ most_count s)
+    in_range data_section = (lit≤ tt, lit≤ tt)
+    in_range mechanism_section = (lit≤ tt, lit≤ tt)
+    in_range module_section = (lit≤ tt, lit≤ tt)
+    in_range line_section = (lit≤ tt, lit≤ tt)
 
     small : (i : ℕ) → get_or gate.initial i 0 < 256
     small i = rw (zeros_at 18 i) (lit< tt)

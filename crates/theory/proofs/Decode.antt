@@ -71,16 +71,16 @@ module _ (x : Line) where
   sparing : (g : Logic) (s : Bool) → eqb x.code (logic_code g) ≡ true → eqb x.mode 2 ≡ false → Says x (logic g s x.operand)
   sparing g s t m = record { code_is = found (logic_code g) t; arg_is = refl; pop_is = bare (logic_code g) (found (logic_code g) t) m }
 
-  logic-says : (g : Logic) (o : Op) → cell_code (logic_code g) ≡ true → eqb x.code (logic_code g) ≡ true → by_cell x.mode (λ s. logic g s x.operand) (logic_cell g) ≡ Some o → Says x o
-  logic-says g o n t e = cell_says (λ q. Says x q) x.mode (λ s. logic g s x.operand) (logic_cell g) o e (λ m. popping g n t m) (λ m s. sparing g s t m)
+  logic_says : (g : Logic) (o : Op) → cell_code (logic_code g) ≡ true → eqb x.code (logic_code g) ≡ true → by_cell x.mode (λ s. logic g s x.operand) (logic_cell g) ≡ Some o → Says x o
+  logic_says g o n t e = cell_says (λ q. Says x q) x.mode (λ s. logic g s x.operand) (logic_cell g) o e (λ m. popping g n t m) (λ m s. sparing g s t m)
 
-  pub decode-says : (o : Op) → decode x ≡ Some o → Says x o
-  decode-says o h1 =
+  pub decode_says : (o : Op) → decode x ≡ Some o → Says x o
+  decode_says o h1 =
       let P : Op → Type 0 = λ q. Says x q in
       pick (P o) (eqb x.code 1) _ _ (Some o) h1 (λ t e. negation_says P x.mode (λ s. ldr s x.operand) o e (says (ldr false x.operand) refl refl refl t) (says (ldr true x.operand) refl refl refl t))
-      (λ _ h2. pick (P o) (eqb x.code 2) _ _ (Some o) h2 (λ t e. logic-says and o refl t e)
-      (λ _ h3. pick (P o) (eqb x.code 3) _ _ (Some o) h3 (λ t e. logic-says or o refl t e)
-      (λ _ h4. pick (P o) (eqb x.code 4) _ _ (Some o) h4 (λ t e. logic-says xor o refl t e)
+      (λ _ h2. pick (P o) (eqb x.code 2) _ _ (Some o) h2 (λ t e. logic_says and o refl t e)
+      (λ _ h3. pick (P o) (eqb x.code 3) _ _ (Some o) h3 (λ t e. logic_says or o refl t e)
+      (λ _ h4. pick (P o) (eqb x.code 4) _ _ (Some o) h4 (λ t e. logic_says xor o refl t e)
       (λ _ h5. pick (P o) (eqb x.code 5) _ _ (Some o) h5 (λ t e. plain_says P x.mode (ca) o e (says (ca) refl refl refl t))
       (λ _ h6. pick (P o) (eqb x.code 6) _ _ (Some o) h6 (λ t e. plain_says P x.mode (wr x.operand) o e (says (wr x.operand) refl refl refl t))
       (λ _ h7. pick (P o) (eqb x.code 7) _ _ (Some o) h7 (λ t e. negation_says P x.mode (λ s. fl s x.operand) o e (says (fl false x.operand) refl refl refl t) (says (fl true x.operand) refl refl refl t))
@@ -101,4 +101,4 @@ module _ (x : Line) where
       (λ _ e. none_some (P o) o e)))))))))))))))))))))
 
 pub lines_say : LinesSay
-lines_say x o h = decode-says x o h
+lines_say x o h = decode_says x o h

@@ -146,11 +146,11 @@ pop_works g r [] m h = absurd (h refl)
 pop_works g r (c ∷ cells) m h = (_, refl)
 
 module _ (p : Program) (x : Line) (f : Bool) (r : Registers) (m : List ℕ) (len : length m ≡ length p.initial) (inside : (k : ℕ) → k < length p.activation → get_or p.activation k 0 < 8 * length p.initial) where
-  bit-works : (a : ℕ) → a < 8 * length p.initial → bit_in m a ≡ true
-  bit-works a h = lt-ltb a (8 * length m) (rw len h)
+  bit_works : (a : ℕ) → a < 8 * length p.initial → bit_in m a ≡ true
+  bit_works a h = lt-ltb a (8 * length m) (rw len h)
 
-  number-works : (w a : ℕ) → a + w ≤ length p.initial → number_in m w a ≡ true
-  number-works w a h = le-leb (a + w) (length m) (rw len h)
+  number_works : (w a : ℕ) → a + w ≤ length p.initial → number_in m w a ≡ true
+  number_works w a h = le-leb (a + w) (length m) (rw len h)
 
   abbrev Works : Op → Type 0
   Works o = (d : Done) × (effect f p.activation o r m ≡ Some d)
@@ -158,21 +158,21 @@ module _ (p : Program) (x : Line) (f : Bool) (r : Registers) (m : List ℕ) (len
   pub works : (o : Op) → Reaches p x (Some o) → (push_of f o ≡ true → length r.cells < 8) → (pop_of o ≡ true → r.cells ≡ [] → ⊥) → Works o
   works (ldr s a) h u v =
       let w = push_works f r (negated_if s (bit m a)) m u in
-      (w.0, cond-true (bit_in m a) (loaded (pushed f r) r (negated_if s (bit m a)) m) None (bit-works a h) ∙ w.1)
-  works (logic g s a) h u v = given_works (bit_in m a) _ (bit-works a h)
+      (w.0, cond-true (bit_in m a) (loaded (pushed f r) r (negated_if s (bit m a)) m) None (bit_works a h) ∙ w.1)
+  works (logic g s a) h u v = given_works (bit_in m a) _ (bit_works a h)
   works (logic_cell g) h u v = pop_works g r r.cells m (v refl)
   works ca h u v = (_, refl)
-  works (wr a) h u v = given_works (bit_in m a) _ (bit-works a h)
-  works (fl b a) h u v = given_works (bit_in m a) _ (bit-works a h)
-  works (fl1 b a) h u v = given_works (bit_in m a) _ (bit-works a h)
+  works (wr a) h u v = given_works (bit_in m a) _ (bit_works a h)
+  works (fl b a) h u v = given_works (bit_in m a) _ (bit_works a h)
+  works (fl1 b a) h u v = given_works (bit_in m a) _ (bit_works a h)
   works (jl w t) h u v = (_, refl)
   works ex h u v = (_, refl)
   works (ex_if w) h u v = (_, refl)
-  works (lod w a) h u v = given_works (number_in m w a) _ (number-works w a h)
-  works (sto w a) h u v = given_works (number_in m w a) _ (number-works w a h)
-  works (ad w a) h u v = given_works (number_in m w a) _ (number-works w a h)
-  works (ge w a) h u v = given_works (number_in m w a) _ (number-works w a h)
+  works (lod w a) h u v = given_works (number_in m w a) _ (number_works w a h)
+  works (sto w a) h u v = given_works (number_in m w a) _ (number_works w a h)
+  works (ad w a) h u v = given_works (number_in m w a) _ (number_works w a h)
+  works (ge w a) h u v = given_works (number_in m w a) _ (number_works w a h)
   works (abs w) h u v = (_, refl)
-  works (mech_begin k) h u v = given_works (bit_in m (get_or p.activation k 0)) _ (bit-works (get_or p.activation k 0) (inside k h))
-  works (mech_end k) h u v = given_works (bit_in m (get_or p.activation k 0)) _ (bit-works (get_or p.activation k 0) (inside k h))
-  works (mech_init k) h u v = given_works (bit_in m (get_or p.activation k 0)) _ (bit-works (get_or p.activation k 0) (inside k h))
+  works (mech_begin k) h u v = given_works (bit_in m (get_or p.activation k 0)) _ (bit_works (get_or p.activation k 0) (inside k h))
+  works (mech_end k) h u v = given_works (bit_in m (get_or p.activation k 0)) _ (bit_works (get_or p.activation k 0) (inside k h))
+  works (mech_init k) h u v = given_works (bit_in m (get_or p.activation k 0)) _ (bit_works (get_or p.activation k 0) (inside k h))

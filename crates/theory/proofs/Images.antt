@@ -92,37 +92,37 @@ module _ (p : Program) where
   N = length p.lines
 
   -- the image from the second, the third and the fourth count on
-  abbrev from-lines : List ℕ
-  from-lines = two_bytes N ++ lines_bytes p.lines
+  abbrev from_lines : List ℕ
+  from_lines = two_bytes N ++ lines_bytes p.lines
 
-  abbrev from-modules : List ℕ
-  from-modules = two_bytes K ++ (pairs_bytes p.lengths ++ from-lines)
+  abbrev from_modules : List ℕ
+  from_modules = two_bytes K ++ (pairs_bytes p.lengths ++ from_lines)
 
-  abbrev from-mechanisms : List ℕ
-  from-mechanisms = two_bytes M ++ (pairs_bytes p.activation ++ from-modules)
+  abbrev from_mechanisms : List ℕ
+  from_mechanisms = two_bytes M ++ (pairs_bytes p.activation ++ from_modules)
 
   -- behind the data, the mechanisms and the modules
-  pair-1 : (a k : ℕ) → a ≡ 2 + D + k → pair_at (image_of p) a ≡ pair_at from-mechanisms k
-  pair-1 a k e = pair_behind (two_bytes D) (p.initial ++ from-mechanisms) a (D + k) (omega arith) ∙ pair_behind p.initial from-mechanisms (D + k) k refl
+  pair_1 : (a k : ℕ) → a ≡ 2 + D + k → pair_at (image_of p) a ≡ pair_at from_mechanisms k
+  pair_1 a k e = pair_behind (two_bytes D) (p.initial ++ from_mechanisms) a (D + k) (omega arith) ∙ pair_behind p.initial from_mechanisms (D + k) k refl
 
-  pair-2 : (a k : ℕ) → a ≡ 4 + D + 2 * M + k → pair_at (image_of p) a ≡ pair_at from-modules k
-  pair-2 a k e =
+  pair_2 : (a k : ℕ) → a ≡ 4 + D + 2 * M + k → pair_at (image_of p) a ≡ pair_at from_modules k
+  pair_2 a k e =
       let q = pairs_size p.activation in
-      pair-1 a (2 + 2 * M + k) (omega arith) ∙ pair_behind (two_bytes M) (pairs_bytes p.activation ++ from-modules) (2 + 2 * M + k) (2 * M + k) (omega arith) ∙ pair_behind (pairs_bytes p.activation) from-modules (2 * M + k) k (omega arith)
+      pair_1 a (2 + 2 * M + k) (omega arith) ∙ pair_behind (two_bytes M) (pairs_bytes p.activation ++ from_modules) (2 + 2 * M + k) (2 * M + k) (omega arith) ∙ pair_behind (pairs_bytes p.activation) from_modules (2 * M + k) k (omega arith)
 
-  pair-3 : (a k : ℕ) → a ≡ 6 + D + 2 * M + 2 * K + k → pair_at (image_of p) a ≡ pair_at from-lines k
-  pair-3 a k e =
+  pair_3 : (a k : ℕ) → a ≡ 6 + D + 2 * M + 2 * K + k → pair_at (image_of p) a ≡ pair_at from_lines k
+  pair_3 a k e =
       let q = pairs_size p.lengths in
-      pair-2 a (2 + 2 * K + k) (omega arith) ∙ pair_behind (two_bytes K) (pairs_bytes p.lengths ++ from-lines) (2 + 2 * K + k) (2 * K + k) (omega arith) ∙ pair_behind (pairs_bytes p.lengths) from-lines (2 * K + k) k (omega arith)
+      pair_2 a (2 + 2 * K + k) (omega arith) ∙ pair_behind (two_bytes K) (pairs_bytes p.lengths ++ from_lines) (2 + 2 * K + k) (2 * K + k) (omega arith) ∙ pair_behind (pairs_bytes p.lengths) from_lines (2 * K + k) k (omega arith)
 
   -- the counts and their places
   record Laid : Type 0 where
-    data-count : count (image_of p) data_section ≡ D
-    mechanism-place : count_place (image_of p) mechanism_section ≡ 2 + D
-    mechanism-count : count (image_of p) mechanism_section ≡ M
-    module-place : count_place (image_of p) module_section ≡ 4 + D + 2 * M
-    module-count : count (image_of p) module_section ≡ K
-    line-place : count_place (image_of p) line_section ≡ 6 + D + 2 * M + 2 * K
+    data_count : count (image_of p) data_section ≡ D
+    mechanism_place : count_place (image_of p) mechanism_section ≡ 2 + D
+    mechanism_count : count (image_of p) mechanism_section ≡ M
+    module_place : count_place (image_of p) module_section ≡ 4 + D + 2 * M
+    module_count : count (image_of p) module_section ≡ K
+    line_place : count_place (image_of p) line_section ≡ 6 + D + 2 * M + 2 * K
     line_count : count (image_of p) line_section ≡ N
     size : length (image_of p) ≡ 8 + D + 2 * M + 2 * K + 4 * N
 
@@ -135,68 +135,68 @@ module _ (p : Program) where
 
   laid : Laid
   laid =
-      let c₀ : count (image_of p) data_section ≡ D = two_back D (p.initial ++ from-mechanisms) in
+      let c₀ : count (image_of p) data_section ≡ D = two_back D (p.initial ++ from_mechanisms) in
       let p₁ : count_place (image_of p) mechanism_section ≡ 2 + D = omega arith in
-      let c₁ : count (image_of p) mechanism_section ≡ M = pair-1 (count_place (image_of p) mechanism_section) 0 (omega arith) ∙ two_back M (pairs_bytes p.activation ++ from-modules) in
+      let c₁ : count (image_of p) mechanism_section ≡ M = pair_1 (count_place (image_of p) mechanism_section) 0 (omega arith) ∙ two_back M (pairs_bytes p.activation ++ from_modules) in
       let p₂ : count_place (image_of p) module_section ≡ 4 + D + 2 * M = omega arith in
-      let c₂ : count (image_of p) module_section ≡ K = pair-2 (count_place (image_of p) module_section) 0 (omega arith) ∙ two_back K (pairs_bytes p.lengths ++ from-lines) in
+      let c₂ : count (image_of p) module_section ≡ K = pair_2 (count_place (image_of p) module_section) 0 (omega arith) ∙ two_back K (pairs_bytes p.lengths ++ from_lines) in
       let p₃ : count_place (image_of p) line_section ≡ 6 + D + 2 * M + 2 * K = omega arith in
-      let c₃ : count (image_of p) line_section ≡ N = pair-3 (count_place (image_of p) line_section) 0 (omega arith) ∙ two_back N (lines_bytes p.lines) in
-      record { data-count = c₀; mechanism-place = p₁; mechanism-count = c₁; module-place = p₂; module-count = c₂; line-place = p₃; line_count = c₃; size = size_of }
+      let c₃ : count (image_of p) line_section ≡ N = pair_3 (count_place (image_of p) line_section) 0 (omega arith) ∙ two_back N (lines_bytes p.lines) in
+      record { data_count = c₀; mechanism_place = p₁; mechanism_count = c₁; module_place = p₂; module_count = c₂; line_place = p₃; line_count = c₃; size = size_of }
 
-  pairs-1 : (n a k : ℕ) → a ≡ 2 + D + k → pairs_from (image_of p) a n ≡ pairs_from from-mechanisms k n
-  pairs-1 n a k e = pairs_behind (two_bytes D) (p.initial ++ from-mechanisms) n a (D + k) (omega arith) ∙ pairs_behind p.initial from-mechanisms n (D + k) k refl
+  pairs_1 : (n a k : ℕ) → a ≡ 2 + D + k → pairs_from (image_of p) a n ≡ pairs_from from_mechanisms k n
+  pairs_1 n a k e = pairs_behind (two_bytes D) (p.initial ++ from_mechanisms) n a (D + k) (omega arith) ∙ pairs_behind p.initial from_mechanisms n (D + k) k refl
 
-  pairs-2 : (n a k : ℕ) → a ≡ 4 + D + 2 * M + k → pairs_from (image_of p) a n ≡ pairs_from from-modules k n
-  pairs-2 n a k e =
+  pairs_2 : (n a k : ℕ) → a ≡ 4 + D + 2 * M + k → pairs_from (image_of p) a n ≡ pairs_from from_modules k n
+  pairs_2 n a k e =
       let q = pairs_size p.activation in
-      pairs-1 n a (2 + 2 * M + k) (omega arith) ∙ pairs_behind (two_bytes M) (pairs_bytes p.activation ++ from-modules) n (2 + 2 * M + k) (2 * M + k) (omega arith) ∙ pairs_behind (pairs_bytes p.activation) from-modules n (2 * M + k) k (omega arith)
+      pairs_1 n a (2 + 2 * M + k) (omega arith) ∙ pairs_behind (two_bytes M) (pairs_bytes p.activation ++ from_modules) n (2 + 2 * M + k) (2 * M + k) (omega arith) ∙ pairs_behind (pairs_bytes p.activation) from_modules n (2 * M + k) k (omega arith)
 
-  lines-3 : (n a k : ℕ) → a ≡ 6 + D + 2 * M + 2 * K + k → lines_from (image_of p) a n ≡ lines_from from-lines k n
-  lines-3 n a k e =
+  lines_3 : (n a k : ℕ) → a ≡ 6 + D + 2 * M + 2 * K + k → lines_from (image_of p) a n ≡ lines_from from_lines k n
+  lines_3 n a k e =
       let q = pairs_size p.activation in
       let r = pairs_size p.lengths in
-      lines_behind (two_bytes D) (p.initial ++ from-mechanisms) n a (D + (4 + 2 * M + 2 * K + k)) (omega arith)
-      ∙ lines_behind p.initial from-mechanisms n (D + (4 + 2 * M + 2 * K + k)) (4 + 2 * M + 2 * K + k) refl
-      ∙ lines_behind (two_bytes M) (pairs_bytes p.activation ++ from-modules) n (4 + 2 * M + 2 * K + k) (2 * M + (2 + 2 * K + k)) (omega arith)
-      ∙ lines_behind (pairs_bytes p.activation) from-modules n (2 * M + (2 + 2 * K + k)) (2 + 2 * K + k) (omega arith)
-      ∙ lines_behind (two_bytes K) (pairs_bytes p.lengths ++ from-lines) n (2 + 2 * K + k) (2 * K + k) (omega arith)
-      ∙ lines_behind (pairs_bytes p.lengths) from-lines n (2 * K + k) k (omega arith)
+      lines_behind (two_bytes D) (p.initial ++ from_mechanisms) n a (D + (4 + 2 * M + 2 * K + k)) (omega arith)
+      ∙ lines_behind p.initial from_mechanisms n (D + (4 + 2 * M + 2 * K + k)) (4 + 2 * M + 2 * K + k) refl
+      ∙ lines_behind (two_bytes M) (pairs_bytes p.activation ++ from_modules) n (4 + 2 * M + 2 * K + k) (2 * M + (2 + 2 * K + k)) (omega arith)
+      ∙ lines_behind (pairs_bytes p.activation) from_modules n (2 * M + (2 + 2 * K + k)) (2 + 2 * K + k) (omega arith)
+      ∙ lines_behind (two_bytes K) (pairs_bytes p.lengths ++ from_lines) n (2 + 2 * K + k) (2 * K + k) (omega arith)
+      ∙ lines_behind (pairs_bytes p.lengths) from_lines n (2 * K + k) k (omega arith)
 
-  initial-back : (program_of (image_of p)).initial ≡ p.initial
-  initial-back = ap (λ (n : ℕ). take n (p.initial ++ from-mechanisms)) laid.data-count ∙ take_at p.initial from-mechanisms D refl
+  initial_back : (program_of (image_of p)).initial ≡ p.initial
+  initial_back = ap (λ (n : ℕ). take n (p.initial ++ from_mechanisms)) laid.data_count ∙ take_at p.initial from_mechanisms D refl
 
-  activation-back : (program_of (image_of p)).activation ≡ p.activation
-  activation-back =
-      let e = laid.mechanism-place in
-      ap (pairs_from (image_of p) (section_place (image_of p) mechanism_section)) laid.mechanism-count
-      ∙ pairs-1 M (section_place (image_of p) mechanism_section) 2 (omega arith)
-      ∙ pairs_behind (two_bytes M) (pairs_bytes p.activation ++ from-modules) M 2 0 refl
-      ∙ pairs_back p.activation from-modules
+  activation_back : (program_of (image_of p)).activation ≡ p.activation
+  activation_back =
+      let e = laid.mechanism_place in
+      ap (pairs_from (image_of p) (section_place (image_of p) mechanism_section)) laid.mechanism_count
+      ∙ pairs_1 M (section_place (image_of p) mechanism_section) 2 (omega arith)
+      ∙ pairs_behind (two_bytes M) (pairs_bytes p.activation ++ from_modules) M 2 0 refl
+      ∙ pairs_back p.activation from_modules
 
-  lengths-back : (program_of (image_of p)).lengths ≡ p.lengths
-  lengths-back =
-      let e = laid.module-place in
-      ap (pairs_from (image_of p) (section_place (image_of p) module_section)) laid.module-count
-      ∙ pairs-2 K (section_place (image_of p) module_section) 2 (omega arith)
-      ∙ pairs_behind (two_bytes K) (pairs_bytes p.lengths ++ from-lines) K 2 0 refl
-      ∙ pairs_back p.lengths from-lines
+  lengths_back : (program_of (image_of p)).lengths ≡ p.lengths
+  lengths_back =
+      let e = laid.module_place in
+      ap (pairs_from (image_of p) (section_place (image_of p) module_section)) laid.module_count
+      ∙ pairs_2 K (section_place (image_of p) module_section) 2 (omega arith)
+      ∙ pairs_behind (two_bytes K) (pairs_bytes p.lengths ++ from_lines) K 2 0 refl
+      ∙ pairs_back p.lengths from_lines
 
-  lines-are-back : (program_of (image_of p)).lines ≡ p.lines
-  lines-are-back =
-      let e = laid.line-place in
+  lines_are_back : (program_of (image_of p)).lines ≡ p.lines
+  lines_are_back =
+      let e = laid.line_place in
       ap (lines_from (image_of p) (section_place (image_of p) line_section)) laid.line_count
-      ∙ lines-3 N (section_place (image_of p) line_section) 2 (omega arith)
+      ∙ lines_3 N (section_place (image_of p) line_section) 2 (omega arith)
       ∙ lines_behind (two_bytes N) (lines_bytes p.lines) N 2 0 refl
       ∙ ap (λ (bs : List ℕ). lines_from bs 0 N) (sym (append_nothing (lines_bytes p.lines)))
       ∙ lines_back p.lines []
 
 pub images_hold : ImagesHold
 images_hold p =
-    let a = initial-back p in
-    let b = activation-back p in
-    let c = lengths-back p in
-    let d = lines-are-back p in
+    let a = initial_back p in
+    let b = activation_back p in
+    let c = lengths_back p in
+    let d = lines_are_back p in
     λ i. record { initial = a i; activation = b i; lengths = c i; lines = d i }
 
 -- THE IMAGE OF A SHAPED PROGRAM
@@ -204,49 +204,49 @@ images_hold p =
 module _ (p : Program) (sh : Shaped p) where
   unshort : (s : Section) → length (image_of p) < section_place (image_of p) s → ⊥
   unshort data_section h = let q = (laid p).size in omega arith
-  unshort mechanism_section h = let q = (laid p).size in let e = (laid p).mechanism-place in omega arith
-  unshort module_section h = let q = (laid p).size in let e = (laid p).module-place in omega arith
-  unshort line_section h = let q = (laid p).size in let e = (laid p).line-place in omega arith
+  unshort mechanism_section h = let q = (laid p).size in let e = (laid p).mechanism_place in omega arith
+  unshort module_section h = let q = (laid p).size in let e = (laid p).module_place in omega arith
+  unshort line_section h = let q = (laid p).size in let e = (laid p).line_place in omega arith
 
   whole : (s : Section) → length (image_of p) < section_place (image_of p) s + record_size s * count (image_of p) s → ⊥
-  whole data_section h = let q = (laid p).size in let c = (laid p).data-count in omega arith
-  whole mechanism_section h = let q = (laid p).size in let e = (laid p).mechanism-place in let c = (laid p).mechanism-count in omega arith
-  whole module_section h = let q = (laid p).size in let e = (laid p).module-place in let c = (laid p).module-count in omega arith
-  whole line_section h = let q = (laid p).size in let e = (laid p).line-place in let c = (laid p).line_count in omega arith
+  whole data_section h = let q = (laid p).size in let c = (laid p).data_count in omega arith
+  whole mechanism_section h = let q = (laid p).size in let e = (laid p).mechanism_place in let c = (laid p).mechanism_count in omega arith
+  whole module_section h = let q = (laid p).size in let e = (laid p).module_place in let c = (laid p).module_count in omega arith
+  whole line_section h = let q = (laid p).size in let e = (laid p).line_place in let c = (laid p).line_count in omega arith
 
   counted : (s : Section) → count (image_of p) s ≡ records p s
-  counted data_section = (laid p).data-count
-  counted mechanism_section = (laid p).mechanism-count
-  counted module_section = (laid p).module-count
+  counted data_section = (laid p).data_count
+  counted mechanism_section = (laid p).mechanism_count
+  counted module_section = (laid p).module_count
   counted line_section = (laid p).line_count
 
-  in-range : (s : Section) → (count (image_of p) s < least_count s) ⊎ (most_count s < count (image_of p) s) → ⊥
-  in-range s (inl h) = let c = counted s in let r = (sh.counts s).0 in omega arith
-  in-range s (inr h) = let c = counted s in let r = (sh.counts s).1 in omega arith
+  in_range : (s : Section) → (count (image_of p) s < least_count s) ⊎ (most_count s < count (image_of p) s) → ⊥
+  in_range s (inl h) = let c = counted s in let r = (sh.counts s).0 in omega arith
+  in_range s (inr h) = let c = counted s in let r = (sh.counts s).1 in omega arith
 
   inside : (k place : ℕ) → k < count (image_of p) mechanism_section → place ≡ section_place (image_of p) mechanism_section + 2 * k → 8 * count (image_of p) data_section ≤ pair_at (image_of p) place → ⊥
   inside k place h e g =
-      let c = (laid p).mechanism-count in
-      let d = (laid p).data-count in
+      let c = (laid p).mechanism_count in
+      let d = (laid p).data_count in
       let q : k < length p.activation = omega arith in
-      let v : get_or p.activation k 0 ≡ pair_at (image_of p) place = ap (λ (ns : List ℕ). get_or ns k 0) (sym (activation-back p)) ∙ pairs_at (image_of p) (section_place (image_of p) mechanism_section) (count (image_of p) mechanism_section) k h ∙ ap (pair_at (image_of p)) (sym e) in
+      let v : get_or p.activation k 0 ≡ pair_at (image_of p) place = ap (λ (ns : List ℕ). get_or ns k 0) (sym (activation_back p)) ∙ pairs_at (image_of p) (section_place (image_of p) mechanism_section) (count (image_of p) mechanism_section) k h ∙ ap (pair_at (image_of p)) (sym e) in
       let w = sh.activation_inside k q in
       omega arith
 
-  sound-image : ImageSound (image_of p)
-  sound-image r l (by_short_count s e q h) = unshort s (omega arith)
-  sound-image r l (by_short_section s e q h) = whole s (omega arith)
-  sound-image r l (by_count s e q h) = in-range s h
-  sound-image r l (by_activation {k = k} e h q g) = inside k l h q g
-  sound-image r l (by_left_over e q h) =
+  sound_image : ImageSound (image_of p)
+  sound_image r l (by_short_count s e q h) = unshort s (omega arith)
+  sound_image r l (by_short_section s e q h) = whole s (omega arith)
+  sound_image r l (by_count s e q h) = in_range s h
+  sound_image r l (by_activation {k = k} e h q g) = inside k l h q g
+  sound_image r l (by_left_over e q h) =
       let x = (laid p).size in
-      let y = (laid p).line-place in
+      let y = (laid p).line_place in
       let z = (laid p).line_count in
       omega arith
-  sound-image r l (by_total e q h) = h (ap total (lengths-back p) ∙ sh.all_lines ∙ sym (laid p).line_count)
+  sound_image r l (by_total e q h) = h (ap total (lengths_back p) ∙ sh.all_lines ∙ sym (laid p).line_count)
 
 pub images_are_sound : ImagesAreSound
-images_are_sound p sh = sound-image p sh
+images_are_sound p sh = sound_image p sh
 
 -- THE SHAPE THAT A SOUND IMAGE GIVES
 
@@ -268,11 +268,11 @@ module _ (image : List ℕ) (sound : ImageSound image) where
   pub most : (s : Section) → count image s ≤ most_count s
   most s = elim (cases_lt (most_count s) (count image s)) [ inl h ↦ absurd (sound 2 (count_place image s) (by_count s refl refl (inr h))) | inr h ↦ h ]
 
-  data-held : 2 + count image data_section ≤ length image
-  data-held = elim (cases_lt (length image) (section_place image data_section + 1 * count image data_section)) [ inl h ↦ absurd (sound 1 (section_place image data_section) (by_short_section data_section refl refl h)) | inr h ↦ omega arith ]
+  data_held : 2 + count image data_section ≤ length image
+  data_held = elim (cases_lt (length image) (section_place image data_section + 1 * count image data_section)) [ inl h ↦ absurd (sound 1 (section_place image data_section) (by_short_section data_section refl refl h)) | inr h ↦ omega arith ]
 
   pub read : (s : Section) → records (program_of image) s ≡ count image s
-  read data_section = length-take-le (count image data_section) (drop 2 image) (simp length-drop (let h = data-held in omega arith))
+  read data_section = length-take-le (count image data_section) (drop 2 image) (simp length-drop (let h = data_held in omega arith))
   read mechanism_section = pairs_length image (section_place image mechanism_section) (count image mechanism_section)
   read module_section = pairs_length image (section_place image module_section) (count image module_section)
   read line_section = lines_length image (section_place image line_section) (count image line_section)
@@ -285,15 +285,15 @@ module _ (image : List ℕ) (sound : ImageSound image) where
       let v = pairs_at image (section_place image mechanism_section) (count image mechanism_section) k q in
       elim (cases_lt (pair_at image (section_place image mechanism_section + 2 * k)) (8 * count image data_section)) [ inl g ↦ omega arith | inr g ↦ absurd (sound 3 (section_place image mechanism_section + 2 * k) (by_activation refl q refl g)) ]
 
-  pub all-lines-counted : total (program_of image).lengths ≡ count image line_section
-  all-lines-counted = sure (cases_eq (total (program_of image).lengths) (count image line_section)) (λ n. sound 5 (count_place image line_section) (by_total refl refl n))
+  pub all_lines_counted : total (program_of image).lengths ≡ count image line_section
+  all_lines_counted = sure (cases_eq (total (program_of image).lengths) (count image line_section)) (λ n. sound 5 (count_place image line_section) (by_total refl refl n))
 
   shape : Bytes image → Shaped (program_of image)
   shape small = record {
     counts = λ s. (let r = read s in let a = least s in let b = most s in (omega arith, omega arith));
     bytes_small = small_take (count image data_section) (drop 2 image) (small_drop 2 image small);
     activation_inside = held;
-    all_lines = all-lines-counted ∙ sym (read line_section);
+    all_lines = all_lines_counted ∙ sym (read line_section);
   }
 
 pub sound_images_are_shaped : SoundImagesAreShaped
@@ -303,8 +303,8 @@ sound_images_are_shaped image small sound = shape image sound small
 
 -- what is read from a place on and written again, before the rest of the image, is the image from that place on
 module _ (image : List ℕ) (small : Bytes image) where
-  pair-again : (a : ℕ) → a + 2 ≤ length image → two_bytes (pair_at image a) ++ drop (a + 2) image ≡ drop a image
-  pair-again a h =
+  pair_again : (a : ℕ) → a + 2 ≤ length image → two_bytes (pair_at image a) ++ drop (a + 2) image ≡ drop a image
+  pair_again a h =
       let lo = small a in
       let e₁ : pair_at image a % 256 ≡ get_or image a 0 = omega arith in
       let e₂ : pair_at image a / 256 ≡ get_or image (a + 1) 0 = omega arith in
@@ -315,50 +315,50 @@ module _ (image : List ℕ) (small : Bytes image) where
       ∙ ap (λ (n : ℕ). get_or image a 0 ∷ get_or image (a + 1) 0 ∷ drop n image) q
       ∙ ap (λ (ys : List ℕ). get_or image a 0 ∷ ys) (sym d₂) ∙ sym d₁
 
-  pairs-again : (n a : ℕ) → a + 2 * n ≤ length image → pairs_bytes (pairs_from image a n) ++ drop (a + 2 * n) image ≡ drop a image
-  pairs-again zero a h = let q : a + 2 * 0 ≡ a = omega arith in ap (λ (k : ℕ). drop k image) q
-  pairs-again (suc n) a h =
+  pairs_again : (n a : ℕ) → a + 2 * n ≤ length image → pairs_bytes (pairs_from image a n) ++ drop (a + 2 * n) image ≡ drop a image
+  pairs_again zero a h = let q : a + 2 * 0 ≡ a = omega arith in ap (λ (k : ℕ). drop k image) q
+  pairs_again (suc n) a h =
       let q : a + 2 * suc n ≡ a + 2 + 2 * n = omega arith in
       ap (λ (k : ℕ). two_bytes (pair_at image a) ++ (pairs_bytes (pairs_from image (a + 2) n) ++ drop k image)) q
-      ∙ ap (λ (ys : List ℕ). two_bytes (pair_at image a) ++ ys) (pairs-again n (a + 2) (omega arith))
-      ∙ pair-again a (omega arith)
+      ∙ ap (λ (ys : List ℕ). two_bytes (pair_at image a) ++ ys) (pairs_again n (a + 2) (omega arith))
+      ∙ pair_again a (omega arith)
 
-  line-again : (a : ℕ) → a + 4 ≤ length image → get_or image a 0 ∷ get_or image (a + 1) 0 ∷ (two_bytes (pair_at image (a + 2)) ++ drop (a + 4) image) ≡ drop a image
-  line-again a h =
+  line_again : (a : ℕ) → a + 4 ≤ length image → get_or image a 0 ∷ get_or image (a + 1) 0 ∷ (two_bytes (pair_at image (a + 2)) ++ drop (a + 4) image) ≡ drop a image
+  line_again a h =
       let d₁ = drop_more image a 0 (omega arith) in
       let d₂ = drop_more image (a + 1) 0 (omega arith) in
       let q₁ : a + 1 + 1 ≡ a + 2 = omega arith in
       let q₂ : a + 4 ≡ a + 2 + 2 = omega arith in
       ap (λ (n : ℕ). get_or image a 0 ∷ get_or image (a + 1) 0 ∷ (two_bytes (pair_at image (a + 2)) ++ drop n image)) q₂
-      ∙ ap (λ (ys : List ℕ). get_or image a 0 ∷ get_or image (a + 1) 0 ∷ ys) (pair-again (a + 2) (omega arith) ∙ ap (λ (n : ℕ). drop n image) (sym q₁))
+      ∙ ap (λ (ys : List ℕ). get_or image a 0 ∷ get_or image (a + 1) 0 ∷ ys) (pair_again (a + 2) (omega arith) ∙ ap (λ (n : ℕ). drop n image) (sym q₁))
       ∙ ap (λ (ys : List ℕ). get_or image a 0 ∷ ys) (sym d₂) ∙ sym d₁
 
-  lines-again : (n a : ℕ) → a + 4 * n ≤ length image → lines_bytes (lines_from image a n) ++ drop (a + 4 * n) image ≡ drop a image
-  lines-again zero a h = let q : a + 4 * 0 ≡ a = omega arith in ap (λ (k : ℕ). drop k image) q
-  lines-again (suc n) a h =
+  lines_again : (n a : ℕ) → a + 4 * n ≤ length image → lines_bytes (lines_from image a n) ++ drop (a + 4 * n) image ≡ drop a image
+  lines_again zero a h = let q : a + 4 * 0 ≡ a = omega arith in ap (λ (k : ℕ). drop k image) q
+  lines_again (suc n) a h =
       let q : a + 4 * suc n ≡ a + 4 + 4 * n = omega arith in
       ap (λ (k : ℕ). get_or image a 0 ∷ get_or image (a + 1) 0 ∷ (two_bytes (pair_at image (a + 2)) ++ (lines_bytes (lines_from image (a + 4) n) ++ drop k image))) q
-      ∙ ap (λ (ys : List ℕ). get_or image a 0 ∷ get_or image (a + 1) 0 ∷ (two_bytes (pair_at image (a + 2)) ++ ys)) (lines-again n (a + 4) (omega arith))
-      ∙ line-again a (omega arith)
+      ∙ ap (λ (ys : List ℕ). get_or image a 0 ∷ get_or image (a + 1) 0 ∷ (two_bytes (pair_at image (a + 2)) ++ ys)) (lines_again n (a + 4) (omega arith))
+      ∙ line_again a (omega arith)
 
 module _ (image : List ℕ) (small : Bytes image) (sound : ImageSound image) where
-  section-held : (s : Section) → section_place image s + record_size s * count image s ≤ length image
-  section-held s = elim (cases_lt (length image) (section_place image s + record_size s * count image s)) [ inl h ↦ absurd (sound 1 (section_place image s) (by_short_section s refl refl h)) | inr h ↦ h ]
+  section_held : (s : Section) → section_place image s + record_size s * count image s ≤ length image
+  section_held s = elim (cases_lt (length image) (section_place image s + record_size s * count image s)) [ inl h ↦ absurd (sound 1 (section_place image s) (by_short_section s refl refl h)) | inr h ↦ h ]
 
   none_over : length image ≤ image_end image
   none_over = elim (cases_lt (image_end image) (length image)) [ inl h ↦ absurd (sound 4 (image_end image) (by_left_over refl refl h)) | inr h ↦ h ]
 
   -- the count of a section, written again, stands before the section
-  count-again : (s : Section) → two_bytes (records (program_of image) s) ++ drop (section_place image s) image ≡ drop (count_place image s) image
-  count-again s =
-      let h = section-held s in
-      ap (λ (n : ℕ). two_bytes n ++ drop (section_place image s) image) (read image sound s) ∙ pair-again image small (count_place image s) (omega arith)
+  count_again : (s : Section) → two_bytes (records (program_of image) s) ++ drop (section_place image s) image ≡ drop (count_place image s) image
+  count_again s =
+      let h = section_held s in
+      ap (λ (n : ℕ). two_bytes n ++ drop (section_place image s) image) (read image sound s) ∙ pair_again image small (count_place image s) (omega arith)
 
   lines_part : lines_bytes (program_of image).lines ≡ drop (section_place image line_section) image
   lines_part =
       sym (append_nothing (lines_bytes (program_of image).lines))
       ∙ ap (λ (ys : List ℕ). lines_bytes (program_of image).lines ++ ys) (sym (drop_all (section_place image line_section + 4 * count image line_section) image none_over))
-      ∙ lines-again image small (count image line_section) (section_place image line_section) (section-held line_section)
+      ∙ lines_again image small (count image line_section) (section_place image line_section) (section_held line_section)
 
   again : image_of (program_of image) ≡ image
   again =
@@ -367,13 +367,13 @@ module _ (image : List ℕ) (small : Bytes image) (sound : ImageSound image) whe
       let b : p.initial ++ drop (count_place image mechanism_section) image ≡ drop 2 image =
       ap (λ (n : ℕ). p.initial ++ drop n image) (sym q) ∙ ap (λ (ys : List ℕ). p.initial ++ ys) (sym (drop-drop (count image data_section) 2 image)) ∙ take-append-drop (count image data_section) (drop 2 image) in
       ap (λ (ys : List ℕ). two_bytes (length p.initial) ++ (p.initial ++ (two_bytes (length p.activation) ++ (pairs_bytes p.activation ++ (two_bytes (length p.lengths) ++ (pairs_bytes p.lengths ++ (two_bytes (length p.lines) ++ ys))))))) lines_part
-      ∙ ap (λ (ys : List ℕ). two_bytes (length p.initial) ++ (p.initial ++ (two_bytes (length p.activation) ++ (pairs_bytes p.activation ++ (two_bytes (length p.lengths) ++ (pairs_bytes p.lengths ++ ys)))))) (count-again line_section)
-      ∙ ap (λ (ys : List ℕ). two_bytes (length p.initial) ++ (p.initial ++ (two_bytes (length p.activation) ++ (pairs_bytes p.activation ++ (two_bytes (length p.lengths) ++ ys))))) (pairs-again image small (count image module_section) (section_place image module_section) (section-held module_section))
-      ∙ ap (λ (ys : List ℕ). two_bytes (length p.initial) ++ (p.initial ++ (two_bytes (length p.activation) ++ (pairs_bytes p.activation ++ ys)))) (count-again module_section)
-      ∙ ap (λ (ys : List ℕ). two_bytes (length p.initial) ++ (p.initial ++ (two_bytes (length p.activation) ++ ys))) (pairs-again image small (count image mechanism_section) (section_place image mechanism_section) (section-held mechanism_section))
-      ∙ ap (λ (ys : List ℕ). two_bytes (length p.initial) ++ (p.initial ++ ys)) (count-again mechanism_section)
+      ∙ ap (λ (ys : List ℕ). two_bytes (length p.initial) ++ (p.initial ++ (two_bytes (length p.activation) ++ (pairs_bytes p.activation ++ (two_bytes (length p.lengths) ++ (pairs_bytes p.lengths ++ ys)))))) (count_again line_section)
+      ∙ ap (λ (ys : List ℕ). two_bytes (length p.initial) ++ (p.initial ++ (two_bytes (length p.activation) ++ (pairs_bytes p.activation ++ (two_bytes (length p.lengths) ++ ys))))) (pairs_again image small (count image module_section) (section_place image module_section) (section_held module_section))
+      ∙ ap (λ (ys : List ℕ). two_bytes (length p.initial) ++ (p.initial ++ (two_bytes (length p.activation) ++ (pairs_bytes p.activation ++ ys)))) (count_again module_section)
+      ∙ ap (λ (ys : List ℕ). two_bytes (length p.initial) ++ (p.initial ++ (two_bytes (length p.activation) ++ ys))) (pairs_again image small (count image mechanism_section) (section_place image mechanism_section) (section_held mechanism_section))
+      ∙ ap (λ (ys : List ℕ). two_bytes (length p.initial) ++ (p.initial ++ ys)) (count_again mechanism_section)
       ∙ ap (λ (ys : List ℕ). two_bytes (length p.initial) ++ ys) b
-      ∙ count-again data_section
+      ∙ count_again data_section
 
 pub sound_images_are_encodings : SoundImagesAreEncodings
 sound_images_are_encodings image small =

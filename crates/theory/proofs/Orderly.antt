@@ -95,22 +95,22 @@ module _ (p : Program) (formed : Formed p) where
   paired : (l : ℕ) → IsBadMechanism p l → ⊥
   paired l h = formed.unbroken 8 l (lit≤ tt) (by_bad_mechanism refl h)
 
-  known-op : (l : ℕ) → l < length p.lines → (o : Option Op) → op_at p l ≡ o → (q : Op) × (op_at p l ≡ Some q)
-  known-op l h None e = absurd (formed.unbroken 6 l (lit≤ tt) (by_unknown_line refl (h, e)))
-  known-op l h (Some q) e = (q, e)
+  known_op : (l : ℕ) → l < length p.lines → (o : Option Op) → op_at p l ≡ o → (q : Op) × (op_at p l ≡ Some q)
+  known_op l h None e = absurd (formed.unbroken 6 l (lit≤ tt) (by_unknown_line refl (h, e)))
+  known_op l h (Some q) e = (q, e)
 
-  main-begin : (l : ℕ) → l < length p.lines → is_begin (line_at p l) ≡ true → module_of p.lengths l ≡ main_module
-  main-begin l h b = sure (cases_eq (module_of p.lengths l) main_module) (λ n. paired l (inl (h, inl (b, inl n))))
+  main_begin : (l : ℕ) → l < length p.lines → is_begin (line_at p l) ≡ true → module_of p.lengths l ≡ main_module
+  main_begin l h b = sure (cases_eq (module_of p.lengths l) main_module) (λ n. paired l (inl (h, inl (b, inl n))))
 
-  sequential-exit : (l : ℕ) → l < length p.lines → is_exit (line_at p l) ≡ true → (b : Bool) → sequential (unit_of p l) ≡ b → b ≡ true
-  sequential-exit l h e true q = refl
-  sequential-exit l h e false q = absurd (formed.unbroken 10 l (lit≤ tt) (by_bad_exit refl (h, e, q)))
+  sequential_exit : (l : ℕ) → l < length p.lines → is_exit (line_at p l) ≡ true → (b : Bool) → sequential (unit_of p l) ≡ b → b ≡ true
+  sequential_exit l h e true q = refl
+  sequential_exit l h e false q = absurd (formed.unbroken 10 l (lit≤ tt) (by_bad_exit refl (h, e, q)))
 
   pub orderly : Orderly p
   orderly = record {
-    known = λ l h. known-op l h (op_at p l) refl;
+    known = λ l h. known_op l h (op_at p l) refl;
     reaches = λ l h. sure (reached p (line_at p l) (op_at p l)) (λ n. formed.unbroken 7 l (lit≤ tt) (by_bad_operand refl (h, n)));
-    begin_main = main-begin;
+    begin_main = main_begin;
     begin_shut = λ l h b. sure (same_option (open_at p l) None) (λ n. paired l (inl (h, inl (b, inr (inl n)))));
     begin_once = λ l j h b lt c e. paired l (inl (h, inl (b, inr (inr (j, lt, (let g : j < length p.lines = omega arith in (g, c, e)))))));
     end_main = λ l h e. sure (cases_eq (module_of p.lengths l) main_module) (λ n. paired l (inl (h, inr (e, inl n))));
@@ -118,5 +118,5 @@ module _ (p : Program) (formed : Formed p) where
     shut = sure (same_option (open_at p (module_end p main_module)) None) (λ n. paired (module_end p main_module) (inr (refl, inl n)));
     all_begun = λ k h n. paired (module_end p main_module) (inr (refl, inr (k, h, n)));
     lands = λ l h j. sure (both_of (below l (line_at p l).operand) (lands_or_not p (line_at p l).operand (unit_of p l))) (λ n. formed.unbroken 9 l (lit≤ tt) (by_bad_jump refl (h, j, n)));
-    exit_sequential = λ l h e. sequential-exit l h e (sequential (unit_of p l)) refl;
+    exit_sequential = λ l h e. sequential_exit l h e (sequential (unit_of p l)) refl;
   }

@@ -31,8 +31,8 @@ block_alike {p} {m} {n₁} {n₂} {m₁} {m₂} (closes {whole = w} q f) (closes
     (s.0, s.2, f ∙ ap after_closing s.1 ∙ sym f₂)
 
 module _ (p : Program) where
-  scans-alike : (ins : List ℕ) (before : Machine) (k l : ℕ) (m n : Machine) → Scans p ins before k m → Scans p ins before l n → (k ≡ l) × (m ≡ n)
-  scans-alike ins before k l m n x y =
+  scans_alike : (ins : List ℕ) (before : Machine) (k l : ℕ) (m n : Machine) → Scans p ins before k m → Scans p ins before l n → (k ≡ l) × (m ≡ n)
+  scans_alike ins before k l m n x y =
       let i = passes_alike p (Module input_module) (with_inputs before.memory ins) x.input_steps y.input_steps true true x.after_input y.after_input x.input_pass y.input_pass in
       let b = block_alike (subst (λ (z : Memory). BlockPart p z x.block_steps x.after_block before.phase m.phase) i.2 x.block_part) y.block_part in
       let j = passes_alike p (Module main_module) y.after_block x.main_steps y.main_steps true true m.memory n.memory (subst (λ (z : Memory). Passes p (Module main_module) z x.main_steps true m.memory) b.1 x.main_pass) y.main_pass in
@@ -43,18 +43,18 @@ module _ (p : Program) where
       let a₃ = j.0 in
       (omega arith, machine_eq m n j.2 b.2)
 
-  clears-alike : (before m n : Machine) → Clears p before m → Clears p before n → m ≡ n
-  clears-alike before m n x y =
+  clears_alike : (before m n : Machine) → Clears p before m → Clears p before n → m ≡ n
+  clears_alike before m n x y =
       let i = passes_alike p (Module clear_module) before.memory x.steps y.steps true true x.cleared_memory y.cleared_memory x.clear_pass y.clear_pass in
       machine_eq m n (x.memory_is ∙ ap (block_points_back p) i.2 ∙ sym y.memory_is) (x.phase_zero ∙ sym y.phase_zero)
 
-  halts-alike : (before m n : Machine) → Halts p before m → Halts p before n → m ≡ n
-  halts-alike before m n x y =
+  halts_alike : (before m n : Machine) → Halts p before m → Halts p before n → m ≡ n
+  halts_alike before m n x y =
       let i = passes_alike p (Module halt_module) before.memory x.steps y.steps true true m.memory n.memory x.halt_pass y.halt_pass in
       machine_eq m n i.2 (x.phase_stays ∙ sym y.phase_stays)
 
-  pub starts-alike : (r s : Answer) (m n : Machine) → Starts p r m → Starts p s n → (r ≡ s) × (m ≡ n)
-  starts-alike r s m n x y =
+  pub starts_alike : (r s : Answer) (m n : Machine) → Starts p r m → Starts p s n → (r ≡ s) × (m ≡ n)
+  starts_alike r s m n x y =
       let i = passes_alike p (Module init_module) (fresh p) x.steps y.steps true true m.memory n.memory x.init_pass y.init_pass in
       let e = machine_eq m n i.2 (x.phase_zero ∙ sym y.phase_zero) in
       (x.answers ∙ ap (λ (z : Machine). Done z.phase) e ∙ sym y.answers, e)
@@ -64,9 +64,9 @@ told m n e = (ap (λ (z : Machine). Done z.phase) e, e)
 
 pub outcomes_alike : OutcomesAlike
 outcomes_alike p ins before c r s m n (scans {n = k} x) (scans {n = l} y) =
-    let e = scans-alike p ins before k l m n x y in
+    let e = scans_alike p ins before k l m n x y in
     (ap₂ Scanned e.0 (ap (λ (z : Machine). z.phase) e.1), e.1)
-outcomes_alike p ins before c r s m n (clears x) (clears y) = told m n (clears-alike p before m n x y)
+outcomes_alike p ins before c r s m n (clears x) (clears y) = told m n (clears_alike p before m n x y)
 outcomes_alike p ins before c r s m n (starts_block q e) (starts_block q₂ e₂) = told m n (e ∙ sym e₂)
 outcomes_alike p ins before c r s m n (starts_block q e) (no_block k) = absurd (k q)
 outcomes_alike p ins before c r s m n (no_block k) (starts_block q e) = absurd (k q)
@@ -75,4 +75,4 @@ outcomes_alike p ins before c r s m n (reports q e) (reports q₂ e₂) = told m
 outcomes_alike p ins before c r s m n (reports q e) (no_report k) = absurd (k q)
 outcomes_alike p ins before c r s m n (no_report k) (reports q e) = absurd (k q)
 outcomes_alike p ins before c r s m n (no_report k) (no_report k₂) = (refl, refl)
-outcomes_alike p ins before c r s m n (halts x) (halts y) = told m n (halts-alike p before m n x y)
+outcomes_alike p ins before c r s m n (halts x) (halts y) = told m n (halts_alike p before m n x y)

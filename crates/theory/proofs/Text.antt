@@ -49,19 +49,19 @@ sum-take [] (suc m) = omega arith
 sum-take (n ∷ ns) (suc m) = let r = sum-take ns m in omega arith
 
 module _ (p : Program) where
-  pub first-end : (m : ℕ) → module_first p m ≤ module_end p m
-  first-end m = rw add-one (sum-take_more p.lengths m)
+  pub first_end : (m : ℕ) → module_first p m ≤ module_end p m
+  first_end m = rw add-one (sum-take_more p.lengths m)
 
-  pub end-within : (m : ℕ) → total p.lengths ≡ length p.lines → module_end p m ≤ length p.lines
-  end-within m e = rw e at (sum-take p.lengths (m + 1))
+  pub end_within : (m : ℕ) → total p.lengths ≡ length p.lines → module_end p m ≤ length p.lines
+  end_within m e = rw e at (sum-take p.lengths (m + 1))
 
   pub inside : (l m : ℕ) → total p.lengths ≡ length p.lines → l < length p.lines → module_of p.lengths l ≡ m → (module_first p m ≤ l) × (l < module_end p m)
   inside l m e h q =
       let g : l < total p.lengths = omega arith in
       (subst (λ (x : ℕ). total (take x p.lengths) ≤ l) q (module_low p.lengths l g), subst (λ (x : ℕ). l < total (take x p.lengths)) (ap suc q ∙ sym (add-one m)) (module_high p.lengths l g))
 
-  pub module-is : (l m : ℕ) → m < length p.lengths → module_first p m ≤ l → l < module_end p m → module_of p.lengths l ≡ m
-  module-is l m h a b = module_known p.lengths m l h a (rw add-one at b)
+  pub module_is : (l m : ℕ) → m < length p.lengths → module_first p m ≤ l → l < module_end p m → module_of p.lengths l ≡ m
+  module_is l m h a b = module_known p.lengths m l h a (rw add-one at b)
 
 -- MECHANISMS
 

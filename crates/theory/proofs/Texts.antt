@@ -13,7 +13,7 @@ use Rattle.rules.specs.Verdict.{OffBalance, IsBadDepth, two_depths, off, MissesI
 use Rattle.theory.specs.Worked.{row}
 use Rattle.theory.specs.Texts.{in_input, nine, NineAccepted, TenRefused, LeftRefused, MeetingRefused}
 use Rattle.theory.proofs.Orderly.{clash, same_part, orderly}
-use Rattle.theory.proofs.Ends.{takes-bound}
+use Rattle.theory.proofs.Ends.{takes_bound}
 use Rattle.theory.proofs.Ruled.{formed}
 use Rattle.theory.proofs.Accepted.{zeros_at}
 
@@ -52,8 +52,8 @@ record Inputs (p : Program) : Type 0 where
 
 module _ (p : Program) (inp : Inputs p) where
   -- every line is INPUT's
-  only-input : {u : UnitId} {l : ℕ} → Own p u l → u ≡ Module input_module
-  only-input {u} {l} o = sym o.part ∙ (inp.fine l o.within).4
+  only_input : {u : UnitId} {l : ℕ} → Own p u l → u ≡ Module input_module
+  only_input {u} {l} o = sym o.part ∙ (inp.fine l o.within).4
 
   lands : (l : ℕ) → l < length p.lines → is_jump (line_at p l) ≡ true → ((l < (line_at p l).operand) × Lands p (line_at p l).operand (unit_of p l) → ⊥) → ⊥
   lands l h j n = go (inp.leads l h).1
@@ -63,18 +63,18 @@ module _ (p : Program) (inp : Inputs p) where
       go (inr (a, b, c)) = n (a, subst (λ (u : UnitId). Lands p (line_at p l).operand u) (sym (inp.fine l h).4) (inl (record { within = b; part = c })))
 
   -- no rule below that of the depths is broken
-  low-unbroken : (r l : ℕ) → Breaks p r l → (r ≡ 13) ⊎ (r ≡ 14)
-  low-unbroken r l (by_unknown_line e h) = absurd ((inp.fine l h.0).0.0 h.1)
-  low-unbroken r l (by_bad_operand e h) = absurd (h.1 (inp.fine l h.0).0.1)
-  low-unbroken r l (by_bad_mechanism e (inl (h, inl b))) = absurd (false≢true (sym (inp.fine l h).0.2 ∙ b.0))
-  low-unbroken r l (by_bad_mechanism e (inl (h, inr b))) = absurd (false≢true (sym (inp.fine l h).1 ∙ b.0))
-  low-unbroken r l (by_bad_mechanism e (inr (q, inl n))) = absurd (n (inp.shut l q))
-  low-unbroken r l (by_bad_mechanism e (inr (q, inr (k, h, n)))) = absurd (let z = inp.no_mechanism in omega arith)
-  low-unbroken r l (by_bad_jump e h) = absurd (lands l h.0 h.1 h.2)
-  low-unbroken r l (by_bad_exit e h) = absurd (false≢true (sym (inp.fine l h.0).3 ∙ h.1))
-  low-unbroken r l (by_bad_init e h) = absurd (false≢true (sym (inp.fine l h.0).2 ∙ h.1))
-  low-unbroken r l (by_bad_depth e h) = inl e
-  low-unbroken r l (by_uninitialised e q h) = inr e
+  low_unbroken : (r l : ℕ) → Breaks p r l → (r ≡ 13) ⊎ (r ≡ 14)
+  low_unbroken r l (by_unknown_line e h) = absurd ((inp.fine l h.0).0.0 h.1)
+  low_unbroken r l (by_bad_operand e h) = absurd (h.1 (inp.fine l h.0).0.1)
+  low_unbroken r l (by_bad_mechanism e (inl (h, inl b))) = absurd (false≢true (sym (inp.fine l h).0.2 ∙ b.0))
+  low_unbroken r l (by_bad_mechanism e (inl (h, inr b))) = absurd (false≢true (sym (inp.fine l h).1 ∙ b.0))
+  low_unbroken r l (by_bad_mechanism e (inr (q, inl n))) = absurd (n (inp.shut l q))
+  low_unbroken r l (by_bad_mechanism e (inr (q, inr (k, h, n)))) = absurd (let z = inp.no_mechanism in omega arith)
+  low_unbroken r l (by_bad_jump e h) = absurd (lands l h.0 h.1 h.2)
+  low_unbroken r l (by_bad_exit e h) = absurd (false≢true (sym (inp.fine l h.0).3 ∙ h.1))
+  low_unbroken r l (by_bad_init e h) = absurd (false≢true (sym (inp.fine l h.0).2 ∙ h.1))
+  low_unbroken r l (by_bad_depth e h) = inl e
+  low_unbroken r l (by_uninitialised e q h) = inr e
 
   initialised : (m : ℕ) → MissesInit p m → ⊥
   initialised m (misses a h n) = let z = inp.no_mechanism in omega arith
@@ -82,9 +82,9 @@ module _ (p : Program) (inp : Inputs p) where
   -- LABELS BELOW A LINE
 
   module _ (L : ℕ) (label : ℕ → ℤ) (start : label 0 ≡ pos 0) (next : (l : ℕ) → l < length p.lines → suc l < L → label (suc l) ≡ label l +ℤ change p l) (jumps : (l : ℕ) → l < length p.lines → is_jump (line_at p l) ≡ true → (line_at p l).operand < L → label (line_at p l).operand ≡ label l +ℤ change p l) where
-    by-entry : (l : ℕ) → Entry p (Module input_module) l → label l ≡ pos 0
-    by-entry l (inl e) = ap label (e ∙ inp.input_first) ∙ start
-    by-entry l (inr (x, o, z, e)) = absurd (false≢true (sym (inp.fine x o.within).3 ∙ z))
+    by_entry : (l : ℕ) → Entry p (Module input_module) l → label l ≡ pos 0
+    by_entry l (inl e) = ap label (e ∙ inp.input_first) ∙ start
+    by_entry l (inr (x, o, z, e)) = absurd (false≢true (sym (inp.fine x o.within).3 ∙ z))
 
     rises : (l m : ℕ) → l < length p.lines → Way p l m → l < m
     rises l m h (inl (x, e)) = let q = (inp.leads l h).0 in omega arith
@@ -99,7 +99,7 @@ module _ (p : Program) (inp : Inputs p) where
     by_way l m h g (inr (j, e)) = ap label e ∙ jumps l h j (omega arith)
 
     labelled : {path : List ℕ} {l : ℕ} → Arrives p (Module input_module) path l → l < L → depth p path ≡ label l
-    labelled (at_entry {m = m} e) g = sym (by-entry m e)
+    labelled (at_entry {m = m} e) g = sym (by_entry m e)
     labelled (passed {l = l} {m = m} a o w) g =
         let r = rises l m o.within w in
         ap (λ (d : ℤ). d +ℤ change p l) (labelled a (omega arith)) ∙ sym (by_way l m o.within g w)
@@ -108,45 +108,45 @@ module _ (p : Program) (inp : Inputs p) where
     abbrev Serves : ℕ → Type 0
     Serves l = ((pops p l ≡ false) ⊎ (label l ≡ pos 0 → ⊥)) × ((pushes p l ≡ false) ⊎ (label l ≡ pos 8 → ⊥)) × ((l ≡ end p (Module input_module) → ⊥) ⊎ (label l ≡ pos 0))
 
-    off-input : (l : ℕ) (d : ℤ) → d ≡ label l → Serves l → OffBalance p (Module input_module) l d → ⊥
-    off-input l d q (inl x, s, t) (inl (o, e, z)) = false≢true (sym x ∙ e)
-    off-input l d q (inr x, s, t) (inl (o, e, z)) = x (sym q ∙ z)
-    off-input l d q (s, inl x, t) (inr (inl (o, e, z))) = false≢true (sym x ∙ e)
-    off-input l d q (s, inr x, t) (inr (inl (o, e, z))) = x (sym q ∙ z)
-    off-input l d q s (inr (inr (inl (o, inl e, n)))) = false≢true (sym (inp.fine l o.within).3 ∙ e)
-    off-input l d q s (inr (inr (inl (o, inr (inl e), n)))) = false≢true (sym (inp.fine l o.within).0.2 ∙ e)
-    off-input l d q s (inr (inr (inl (o, inr (inr e), n)))) = false≢true (sym (inp.fine l o.within).1 ∙ e)
-    off-input l d q (s, t, inl x) (inr (inr (inr (e, n)))) = x e
-    off-input l d q (s, t, inr x) (inr (inr (inr (e, n)))) = n (q ∙ x)
+    off_input : (l : ℕ) (d : ℤ) → d ≡ label l → Serves l → OffBalance p (Module input_module) l d → ⊥
+    off_input l d q (inl x, s, t) (inl (o, e, z)) = false≢true (sym x ∙ e)
+    off_input l d q (inr x, s, t) (inl (o, e, z)) = x (sym q ∙ z)
+    off_input l d q (s, inl x, t) (inr (inl (o, e, z))) = false≢true (sym x ∙ e)
+    off_input l d q (s, inr x, t) (inr (inl (o, e, z))) = x (sym q ∙ z)
+    off_input l d q s (inr (inr (inl (o, inl e, n)))) = false≢true (sym (inp.fine l o.within).3 ∙ e)
+    off_input l d q s (inr (inr (inl (o, inr (inl e), n)))) = false≢true (sym (inp.fine l o.within).0.2 ∙ e)
+    off_input l d q s (inr (inr (inl (o, inr (inr e), n)))) = false≢true (sym (inp.fine l o.within).1 ∙ e)
+    off_input l d q (s, t, inl x) (inr (inr (inr (e, n)))) = x e
+    off_input l d q (s, t, inr x) (inr (inr (inr (e, n)))) = n (q ∙ x)
 
-    flat-elsewhere : {u : UnitId} {path : List ℕ} {l : ℕ} → (u ≡ Module input_module → ⊥) → Arrives p u path l → depth p path ≡ pos 0
-    flat-elsewhere k (at_entry e) = refl
-    flat-elsewhere k (passed a o w) = absurd (k (only-input o))
+    flat_elsewhere : {u : UnitId} {path : List ℕ} {l : ℕ} → (u ≡ Module input_module → ⊥) → Arrives p u path l → depth p path ≡ pos 0
+    flat_elsewhere k (at_entry e) = refl
+    flat_elsewhere k (passed a o w) = absurd (k (only_input o))
 
-    off-elsewhere : (u : UnitId) (l : ℕ) (d : ℤ) → (u ≡ Module input_module → ⊥) → d ≡ pos 0 → OffBalance p u l d → ⊥
-    off-elsewhere u l d k z (inl (o, e, q)) = k (only-input o)
-    off-elsewhere u l d k z (inr (inl (o, e, q))) = k (only-input o)
-    off-elsewhere u l d k z (inr (inr (inl (o, e, n)))) = k (only-input o)
-    off-elsewhere u l d k z (inr (inr (inr (e, n)))) = n z
+    off_elsewhere : (u : UnitId) (l : ℕ) (d : ℤ) → (u ≡ Module input_module → ⊥) → d ≡ pos 0 → OffBalance p u l d → ⊥
+    off_elsewhere u l d k z (inl (o, e, q)) = k (only_input o)
+    off_elsewhere u l d k z (inr (inl (o, e, q))) = k (only_input o)
+    off_elsewhere u l d k z (inr (inr (inl (o, e, n)))) = k (only_input o)
+    off_elsewhere u l d k z (inr (inr (inr (e, n)))) = n z
 
-    depth-serves : (l : ℕ) → l < L → Serves l → IsBadDepth p l → ⊥
-    depth-serves l g s (two_depths {u = u} {a = a} {b = b} h x y n) = go (same_part u (Module input_module))
+    depth_serves : (l : ℕ) → l < L → Serves l → IsBadDepth p l → ⊥
+    depth_serves l g s (two_depths {u = u} {a = a} {b = b} h x y n) = go (same_part u (Module input_module))
       where
         go : (u ≡ Module input_module) ⊎ (u ≡ Module input_module → ⊥) → ⊥
         go (inl e) = n (labelled (subst (λ (v : UnitId). Arrives p v a l) e x) g ∙ sym (labelled (subst (λ (v : UnitId). Arrives p v b l) e y) g))
-        go (inr k) = n (flat-elsewhere k x ∙ sym (flat-elsewhere k y))
-    depth-serves l g s (off {u = u} {a = a} h x o) = go (same_part u (Module input_module))
+        go (inr k) = n (flat_elsewhere k x ∙ sym (flat_elsewhere k y))
+    depth_serves l g s (off {u = u} {a = a} h x o) = go (same_part u (Module input_module))
       where
         go : (u ≡ Module input_module) ⊎ (u ≡ Module input_module → ⊥) → ⊥
-        go (inl e) = off-input l (depth p a) (labelled (subst (λ (v : UnitId). Arrives p v a l) e x) g) s (subst (λ (v : UnitId). OffBalance p v l (depth p a)) e o)
-        go (inr k) = off-elsewhere u l (depth p a) k (flat-elsewhere k x) o
+        go (inl e) = off_input l (depth p a) (labelled (subst (λ (v : UnitId). Arrives p v a l) e x) g) s (subst (λ (v : UnitId). OffBalance p v l (depth p a)) e o)
+        go (inr k) = off_elsewhere u l (depth p a) k (flat_elsewhere k x) o
 
     -- the refusal at L, where all before it serves
     refusal : IsBadDepth p L → ((l : ℕ) → l < L → Serves l) → TextRefused p 13 L
     refusal b s = record { broken = by_bad_depth refl b; lowest = lower; foremost = before }
       where
         lower : (r l : ℕ) → r < 13 → Breaks p r l → ⊥
-        lower r l h x = elim (low-unbroken r l x) [ inl e ↦ omega arith | inr e ↦ omega arith ]
+        lower r l h x = elim (low_unbroken r l x) [ inl e ↦ omega arith | inr e ↦ omega arith ]
 
         before : (l : ℕ) → l < L → Breaks p 13 l → ⊥
         before l g (by_unknown_line e h) = omega arith
@@ -155,7 +155,7 @@ module _ (p : Program) (inp : Inputs p) where
         before l g (by_bad_jump e h) = omega arith
         before l g (by_bad_exit e h) = omega arith
         before l g (by_bad_init e h) = omega arith
-        before l g (by_bad_depth e h) = depth-serves l g (s l g) h
+        before l g (by_bad_depth e h) = depth_serves l g (s l g) h
         before l g (by_uninitialised e q h) = omega arith
 
 zeros_small : (i : ℕ) → get_or (replicate 17 0) i 0 < 256
@@ -176,13 +176,13 @@ abbrev ten : Program
 ten = in_input (replicate 10 (row LDR 0 0))
 
 ten_inputs : Inputs ten
-ten_inputs = record { shaped = record { counts = in-range; bytes_small = zeros_small; activation_inside = λ k h. absurd (omega arith); all_lines = refl }; no_mechanism = refl; shut = λ l e. ap (open_at ten) e; input_first = refl; input_end = refl; fine = each (Fine ten) 10 ((((((((((tt, ((λ e. clash ⊥ _ e, lit< tt, refl), refl, refl, refl, refl)), ((λ e. clash ⊥ _ e, lit< tt, refl), refl, refl, refl, refl)), ((λ e. clash ⊥ _ e, lit< tt, refl), refl, refl, refl, refl)), ((λ e. clash ⊥ _ e, lit< tt, refl), refl, refl, refl, refl)), ((λ e. clash ⊥ _ e, lit< tt, refl), refl, refl, refl, refl)), ((λ e. clash ⊥ _ e, lit< tt, refl), refl, refl, refl, refl)), ((λ e. clash ⊥ _ e, lit< tt, refl), refl, refl, refl, refl)), ((λ e. clash ⊥ _ e, lit< tt, refl), refl, refl, refl, refl)), ((λ e. clash ⊥ _ e, lit< tt, refl), refl, refl, refl, refl)), ((λ e. clash ⊥ _ e, lit< tt, refl), refl, refl, refl, refl)); leads = each (Leads ten) 10 ((((((((((tt, (refl, inl refl)), (refl, inl refl)), (refl, inl refl)), (refl, inl refl)), (refl, inl refl)), (refl, inl refl)), (refl, inl refl)), (refl, inl refl)), (refl, inl refl)), (refl, inl refl)) }
+ten_inputs = record { shaped = record { counts = in_range; bytes_small = zeros_small; activation_inside = λ k h. absurd (omega arith); all_lines = refl }; no_mechanism = refl; shut = λ l e. ap (open_at ten) e; input_first = refl; input_end = refl; fine = each (Fine ten) 10 ((((((((((tt, ((λ e. clash ⊥ _ e, lit< tt, refl), refl, refl, refl, refl)), ((λ e. clash ⊥ _ e, lit< tt, refl), refl, refl, refl, refl)), ((λ e. clash ⊥ _ e, lit< tt, refl), refl, refl, refl, refl)), ((λ e. clash ⊥ _ e, lit< tt, refl), refl, refl, refl, refl)), ((λ e. clash ⊥ _ e, lit< tt, refl), refl, refl, refl, refl)), ((λ e. clash ⊥ _ e, lit< tt, refl), refl, refl, refl, refl)), ((λ e. clash ⊥ _ e, lit< tt, refl), refl, refl, refl, refl)), ((λ e. clash ⊥ _ e, lit< tt, refl), refl, refl, refl, refl)), ((λ e. clash ⊥ _ e, lit< tt, refl), refl, refl, refl, refl)), ((λ e. clash ⊥ _ e, lit< tt, refl), refl, refl, refl, refl)); leads = each (Leads ten) 10 ((((((((((tt, (refl, inl refl)), (refl, inl refl)), (refl, inl refl)), (refl, inl refl)), (refl, inl refl)), (refl, inl refl)), (refl, inl refl)), (refl, inl refl)), (refl, inl refl)), (refl, inl refl)) }
   where
-    in-range : (s : Section) → (least_count s ≤ records ten s) × (records ten s ≤ most_count s)
-    in-range data_section = (lit≤ tt, lit≤ tt)
-    in-range mechanism_section = (lit≤ tt, lit≤ tt)
-    in-range module_section = (lit≤ tt, lit≤ tt)
-    in-range line_section = (lit≤ tt, lit≤ tt)
+    in_range : (s : Section) → (least_count s ≤ records ten s) × (records ten s ≤ most_count s)
+    in_range data_section = (lit≤ tt, lit≤ tt)
+    in_range mechanism_section = (lit≤ tt, lit≤ tt)
+    in_range module_section = (lit≤ tt, lit≤ tt)
+    in_range line_section = (lit≤ tt, lit≤ tt)
 
 abbrev ten_label : ℕ → ℤ
 ten_label = labels (0 ∷ 0 ∷ 1 ∷ 2 ∷ 3 ∷ 4 ∷ 5 ∷ 6 ∷ 7 ∷ 8 ∷ 9 ∷ [])
@@ -205,13 +205,13 @@ abbrev left : Program
 left = in_input (row LDR 0 0 ∷ row LDR 0 0 ∷ row WR 0 64 ∷ [])
 
 left_inputs : Inputs left
-left_inputs = record { shaped = record { counts = in-range; bytes_small = zeros_small; activation_inside = λ k h. absurd (omega arith); all_lines = refl }; no_mechanism = refl; shut = λ l e. ap (open_at left) e; input_first = refl; input_end = refl; fine = each (Fine left) 3 (((tt, ((λ e. clash ⊥ _ e, lit< tt, refl), refl, refl, refl, refl)), ((λ e. clash ⊥ _ e, lit< tt, refl), refl, refl, refl, refl)), ((λ e. clash ⊥ _ e, lit< tt, refl), refl, refl, refl, refl)); leads = each (Leads left) 3 (((tt, (refl, inl refl)), (refl, inl refl)), (refl, inl refl)) }
+left_inputs = record { shaped = record { counts = in_range; bytes_small = zeros_small; activation_inside = λ k h. absurd (omega arith); all_lines = refl }; no_mechanism = refl; shut = λ l e. ap (open_at left) e; input_first = refl; input_end = refl; fine = each (Fine left) 3 (((tt, ((λ e. clash ⊥ _ e, lit< tt, refl), refl, refl, refl, refl)), ((λ e. clash ⊥ _ e, lit< tt, refl), refl, refl, refl, refl)), ((λ e. clash ⊥ _ e, lit< tt, refl), refl, refl, refl, refl)); leads = each (Leads left) 3 (((tt, (refl, inl refl)), (refl, inl refl)), (refl, inl refl)) }
   where
-    in-range : (s : Section) → (least_count s ≤ records left s) × (records left s ≤ most_count s)
-    in-range data_section = (lit≤ tt, lit≤ tt)
-    in-range mechanism_section = (lit≤ tt, lit≤ tt)
-    in-range module_section = (lit≤ tt, lit≤ tt)
-    in-range line_section = (lit≤ tt, lit≤ tt)
+    in_range : (s : Section) → (least_count s ≤ records left s) × (records left s ≤ most_count s)
+    in_range data_section = (lit≤ tt, lit≤ tt)
+    in_range mechanism_section = (lit≤ tt, lit≤ tt)
+    in_range module_section = (lit≤ tt, lit≤ tt)
+    in_range line_section = (lit≤ tt, lit≤ tt)
 
 abbrev left_label : ℕ → ℤ
 left_label = labels (0 ∷ 0 ∷ 1 ∷ 1 ∷ [])
@@ -234,13 +234,13 @@ abbrev meeting : Program
 meeting = in_input (row LDR 0 0 ∷ row JL1 0 4 ∷ row LDR 0 0 ∷ row LDR 0 0 ∷ row LA 2 0 ∷ [])
 
 meeting_inputs : Inputs meeting
-meeting_inputs = record { shaped = record { counts = in-range; bytes_small = zeros_small; activation_inside = λ k h. absurd (omega arith); all_lines = refl }; no_mechanism = refl; shut = λ l e. ap (open_at meeting) e; input_first = refl; input_end = refl; fine = each (Fine meeting) 5 (((((tt, ((λ e. clash ⊥ _ e, lit< tt, refl), refl, refl, refl, refl)), ((λ e. clash ⊥ _ e, tt, refl), refl, refl, refl, refl)), ((λ e. clash ⊥ _ e, lit< tt, refl), refl, refl, refl, refl)), ((λ e. clash ⊥ _ e, lit< tt, refl), refl, refl, refl, refl)), ((λ e. clash ⊥ _ e, refl, refl), refl, refl, refl, refl)); leads = each (Leads meeting) 5 (((((tt, (refl, inl refl)), (refl, inr (lit< tt, lit< tt, refl))), (refl, inl refl)), (refl, inl refl)), (refl, inl refl)) }
+meeting_inputs = record { shaped = record { counts = in_range; bytes_small = zeros_small; activation_inside = λ k h. absurd (omega arith); all_lines = refl }; no_mechanism = refl; shut = λ l e. ap (open_at meeting) e; input_first = refl; input_end = refl; fine = each (Fine meeting) 5 (((((tt, ((λ e. clash ⊥ _ e, lit< tt, refl), refl, refl, refl, refl)), ((λ e. clash ⊥ _ e, tt, refl), refl, refl, refl, refl)), ((λ e. clash ⊥ _ e, lit< tt, refl), refl, refl, refl, refl)), ((λ e. clash ⊥ _ e, lit< tt, refl), refl, refl, refl, refl)), ((λ e. clash ⊥ _ e, refl, refl), refl, refl, refl, refl)); leads = each (Leads meeting) 5 (((((tt, (refl, inl refl)), (refl, inr (lit< tt, lit< tt, refl))), (refl, inl refl)), (refl, inl refl)), (refl, inl refl)) }
   where
-    in-range : (s : Section) → (least_count s ≤ records meeting s) × (records meeting s ≤ most_count s)
-    in-range data_section = (lit≤ tt, lit≤ tt)
-    in-range mechanism_section = (lit≤ tt, lit≤ tt)
-    in-range module_section = (lit≤ tt, lit≤ tt)
-    in-range line_section = (lit≤ tt, lit≤ tt)
+    in_range : (s : Section) → (least_count s ≤ records meeting s) × (records meeting s ≤ most_count s)
+    in_range data_section = (lit≤ tt, lit≤ tt)
+    in_range mechanism_section = (lit≤ tt, lit≤ tt)
+    in_range module_section = (lit≤ tt, lit≤ tt)
+    in_range line_section = (lit≤ tt, lit≤ tt)
 
 abbrev meeting_label : ℕ → ℤ
 meeting_label = labels (0 ∷ 0 ∷ 0 ∷ 0 ∷ 1 ∷ [])
@@ -260,13 +260,13 @@ meeting_refused = refusal meeting meeting_inputs 4 meeting_label refl meeting_ne
 -- NINE
 
 nine_inputs : Inputs nine
-nine_inputs = record { shaped = record { counts = in-range; bytes_small = zeros_small; activation_inside = λ k h. absurd (omega arith); all_lines = refl }; no_mechanism = refl; shut = λ l e. ap (open_at nine) e; input_first = refl; input_end = refl; fine = each (Fine nine) 18 ((((((((((((((((((tt, ((λ e. clash ⊥ _ e, lit< tt, refl), refl, refl, refl, refl)), ((λ e. clash ⊥ _ e, lit< tt, refl), refl, refl, refl, refl)), ((λ e. clash ⊥ _ e, lit< tt, refl), refl, refl, refl, refl)), ((λ e. clash ⊥ _ e, lit< tt, refl), refl, refl, refl, refl)), ((λ e. clash ⊥ _ e, lit< tt, refl), refl, refl, refl, refl)), ((λ e. clash ⊥ _ e, lit< tt, refl), refl, refl, refl, refl)), ((λ e. clash ⊥ _ e, lit< tt, refl), refl, refl, refl, refl)), ((λ e. clash ⊥ _ e, lit< tt, refl), refl, refl, refl, refl)), ((λ e. clash ⊥ _ e, lit< tt, refl), refl, refl, refl, refl)), ((λ e. clash ⊥ _ e, refl, refl), refl, refl, refl, refl)), ((λ e. clash ⊥ _ e, refl, refl), refl, refl, refl, refl)), ((λ e. clash ⊥ _ e, refl, refl), refl, refl, refl, refl)), ((λ e. clash ⊥ _ e, refl, refl), refl, refl, refl, refl)), ((λ e. clash ⊥ _ e, refl, refl), refl, refl, refl, refl)), ((λ e. clash ⊥ _ e, refl, refl), refl, refl, refl, refl)), ((λ e. clash ⊥ _ e, refl, refl), refl, refl, refl, refl)), ((λ e. clash ⊥ _ e, refl, refl), refl, refl, refl, refl)), ((λ e. clash ⊥ _ e, lit< tt, refl), refl, refl, refl, refl)); leads = each (Leads nine) 18 ((((((((((((((((((tt, (refl, inl refl)), (refl, inl refl)), (refl, inl refl)), (refl, inl refl)), (refl, inl refl)), (refl, inl refl)), (refl, inl refl)), (refl, inl refl)), (refl, inl refl)), (refl, inl refl)), (refl, inl refl)), (refl, inl refl)), (refl, inl refl)), (refl, inl refl)), (refl, inl refl)), (refl, inl refl)), (refl, inl refl)), (refl, inl refl)) }
+nine_inputs = record { shaped = record { counts = in_range; bytes_small = zeros_small; activation_inside = λ k h. absurd (omega arith); all_lines = refl }; no_mechanism = refl; shut = λ l e. ap (open_at nine) e; input_first = refl; input_end = refl; fine = each (Fine nine) 18 ((((((((((((((((((tt, ((λ e. clash ⊥ _ e, lit< tt, refl), refl, refl, refl, refl)), ((λ e. clash ⊥ _ e, lit< tt, refl), refl, refl, refl, refl)), ((λ e. clash ⊥ _ e, lit< tt, refl), refl, refl, refl, refl)), ((λ e. clash ⊥ _ e, lit< tt, refl), refl, refl, refl, refl)), ((λ e. clash ⊥ _ e, lit< tt, refl), refl, refl, refl, refl)), ((λ e. clash ⊥ _ e, lit< tt, refl), refl, refl, refl, refl)), ((λ e. clash ⊥ _ e, lit< tt, refl), refl, refl, refl, refl)), ((λ e. clash ⊥ _ e, lit< tt, refl), refl, refl, refl, refl)), ((λ e. clash ⊥ _ e, lit< tt, refl), refl, refl, refl, refl)), ((λ e. clash ⊥ _ e, refl, refl), refl, refl, refl, refl)), ((λ e. clash ⊥ _ e, refl, refl), refl, refl, refl, refl)), ((λ e. clash ⊥ _ e, refl, refl), refl, refl, refl, refl)), ((λ e. clash ⊥ _ e, refl, refl), refl, refl, refl, refl)), ((λ e. clash ⊥ _ e, refl, refl), refl, refl, refl, refl)), ((λ e. clash ⊥ _ e, refl, refl), refl, refl, refl, refl)), ((λ e. clash ⊥ _ e, refl, refl), refl, refl, refl, refl)), ((λ e. clash ⊥ _ e, refl, refl), refl, refl, refl, refl)), ((λ e. clash ⊥ _ e, lit< tt, refl), refl, refl, refl, refl)); leads = each (Leads nine) 18 ((((((((((((((((((tt, (refl, inl refl)), (refl, inl refl)), (refl, inl refl)), (refl, inl refl)), (refl, inl refl)), (refl, inl refl)), (refl, inl refl)), (refl, inl refl)), (refl, inl refl)), (refl, inl refl)), (refl, inl refl)), (refl, inl refl)), (refl, inl refl)), (refl, inl refl)), (refl, inl refl)), (refl, inl refl)), (refl, inl refl)), (refl, inl refl)) }
   where
-    in-range : (s : Section) → (least_count s ≤ records nine s) × (records nine s ≤ most_count s)
-    in-range data_section = (lit≤ tt, lit≤ tt)
-    in-range mechanism_section = (lit≤ tt, lit≤ tt)
-    in-range module_section = (lit≤ tt, lit≤ tt)
-    in-range line_section = (lit≤ tt, lit≤ tt)
+    in_range : (s : Section) → (least_count s ≤ records nine s) × (records nine s ≤ most_count s)
+    in_range data_section = (lit≤ tt, lit≤ tt)
+    in_range mechanism_section = (lit≤ tt, lit≤ tt)
+    in_range module_section = (lit≤ tt, lit≤ tt)
+    in_range line_section = (lit≤ tt, lit≤ tt)
 
 abbrev nine_label : ℕ → ℤ
 nine_label = labels (0 ∷ 0 ∷ 1 ∷ 2 ∷ 3 ∷ 4 ∷ 5 ∷ 6 ∷ 7 ∷ 8 ∷ 7 ∷ 6 ∷ 5 ∷ 4 ∷ 3 ∷ 2 ∷ 1 ∷ 0 ∷ 0 ∷ [])
@@ -292,17 +292,17 @@ arrives_low (passed {l = l} a o (inl (x, e))) h = let q = (nine_inputs.leads l o
 arrives_low (passed {l = l} a o (inr (j, e))) h = absurd (false≢true (sym (each (λ l. is_jump (line_at nine l) ≡ false) 18 ((((((((((((((((((tt, refl), refl), refl), refl), refl), refl), refl), refl), refl), refl), refl), refl), refl), refl), refl), refl), refl), refl) l o.within) ∙ j))
 
 nine_unbroken : (r l : ℕ) → Breaks nine r l → ⊥
-nine_unbroken r l b = go (low-unbroken nine nine_inputs r l b) b
+nine_unbroken r l b = go (low_unbroken nine nine_inputs r l b) b
   where
     deep : (l : ℕ) → IsBadDepth nine l → ⊥
-    deep l d = depth-serves nine nine_inputs 19 nine_label refl nine_next nine_jumps l (at-most-end l d) (nine_serves l (at-most-end l d)) d
+    deep l d = depth_serves nine nine_inputs 19 nine_label refl nine_next nine_jumps l (at_most_end l d) (nine_serves l (at_most_end l d)) d
       where
         low : {u : UnitId} {path : List ℕ} {l : ℕ} → Real nine u → Arrives nine u path l → l < 19
         low h a = arrives_low a h
 
-        at-most-end : (l : ℕ) → IsBadDepth nine l → l < 19
-        at-most-end l (two_depths h x y n) = low h x
-        at-most-end l (off h x o) = low h x
+        at_most_end : (l : ℕ) → IsBadDepth nine l → l < 19
+        at_most_end l (two_depths h x y n) = low h x
+        at_most_end l (off h x o) = low h x
 
     go : (r ≡ 13) ⊎ (r ≡ 14) → Breaks nine r l → ⊥
     go h (by_unknown_line e g) = elim h [ inl q ↦ omega arith | inr q ↦ omega arith ]
@@ -325,10 +325,10 @@ no_deeper d (u, l, a, h, r, e) = go (same_part u (Module input_module))
   where
     go : (u ≡ Module input_module) ⊎ (u ≡ Module input_module → ⊥) → d ≤ℤ pos 8
     go (inl q) = subst (λ (x : ℤ). x ≤ℤ pos 8) (sym (e ∙ labelled nine nine_inputs 19 nine_label refl nine_next nine_jumps (subst (λ (v : UnitId). Arrives nine v a l) q r) (arrives_low r h))) (nine_low l (arrives_low r h))
-    go (inr k) = subst (λ (x : ℤ). x ≤ℤ pos 8) (sym (e ∙ flat-elsewhere nine nine_inputs 19 nine_label refl nine_next nine_jumps k r)) (omega (arith, ints))
+    go (inr k) = subst (λ (x : ℤ). x ≤ℤ pos 8) (sym (e ∙ flat_elsewhere nine nine_inputs 19 nine_label refl nine_next nine_jumps k r)) (omega (arith, ints))
 
 nine_takes : (t n : ℕ) → t < 7 → Takes nine (Module t) n → first nine (Module t) + n ≤ end nine (Module t)
-nine_takes t n h k = takes-bound nine nine_inputs.shaped (orderly nine (formed nine nine_accepts)) t n h k
+nine_takes t n h k = takes_bound nine nine_inputs.shaped (orderly nine (formed nine nine_accepts)) t n h k
 
 block_none : (n : ℕ) → BlockTakes nine n → n ≡ 0
 block_none n (inl e) = e

@@ -39,27 +39,27 @@ module _ (p : Program) (u : UnitId) (l : ℕ) (own : Own p u l) (below : l < end
   bare = is_exit (line_at p l) || (is_begin (line_at p l) || is_end (line_at p l))
 
   -- with no cell stacked, only a pop does not serve
-  pub popped-at-none : low ≡ pos 0 → Misfits p u l low high → pops p l ≡ true
-  popped-at-none z (inl n) = absurd (n same)
-  popped-at-none z (inr (inl (o, h, e))) = h
-  popped-at-none z (inr (inr (inl (o, h, e)))) = absurd (let q : pos 0 ≡ pos 8 = sym z ∙ e in let y : ◌≡◌ {A = ℕ} 0 8 = cc in omega arith)
-  popped-at-none z (inr (inr (inr (inl (o, k, n))))) = absurd (n z)
-  popped-at-none z (inr (inr (inr (inr (e, n))))) = absurd (n z)
+  pub popped_at_none : low ≡ pos 0 → Misfits p u l low high → pops p l ≡ true
+  popped_at_none z (inl n) = absurd (n same)
+  popped_at_none z (inr (inl (o, h, e))) = h
+  popped_at_none z (inr (inr (inl (o, h, e)))) = absurd (let q : pos 0 ≡ pos 8 = sym z ∙ e in let y : ◌≡◌ {A = ℕ} 0 8 = cc in omega arith)
+  popped_at_none z (inr (inr (inr (inl (o, k, n))))) = absurd (n z)
+  popped_at_none z (inr (inr (inr (inr (e, n))))) = absurd (n z)
 
-  pub pop-misfits : low ≡ pos 0 → pops p l ≡ true → Misfits p u l low high
-  pop-misfits z h = inr (inl (own, h, z))
+  pub pop_misfits : low ≡ pos 0 → pops p l ≡ true → Misfits p u l low high
+  pop_misfits z h = inr (inl (own, h, z))
 
   -- with cells stacked, a line that wants none does not serve
-  pub bare-misfits : (low ≡ pos 0 → ⊥) → bare ≡ true → Misfits p u l low high
-  bare-misfits n h = inr (inr (inr (inl (own, one_of_three (is_exit (line_at p l)) (is_begin (line_at p l)) (is_end (line_at p l)) h, n))))
+  pub bare_misfits : (low ≡ pos 0 → ⊥) → bare ≡ true → Misfits p u l low high
+  bare_misfits n h = inr (inr (inr (inl (own, one_of_three (is_exit (line_at p l)) (is_begin (line_at p l)) (is_end (line_at p l)) h, n))))
 
   -- and else only a push onto eight
-  pub pushed-at-eight : (low ≡ pos 0 → ⊥) → bare ≡ false → Misfits p u l low high → (pushes p l ≡ true) × (low ≡ pos 8)
-  pushed-at-eight n b (inl m) = absurd (m same)
-  pushed-at-eight n b (inr (inl (o, h, e))) = absurd (n e)
-  pushed-at-eight n b (inr (inr (inl (o, h, e)))) = (h, e)
-  pushed-at-eight n b (inr (inr (inr (inl (o, k, m))))) = absurd (none_of_three (is_exit (line_at p l)) (is_begin (line_at p l)) (is_end (line_at p l)) b k)
-  pushed-at-eight n b (inr (inr (inr (inr (e, m))))) = absurd (omega arith)
+  pub pushed_at_eight : (low ≡ pos 0 → ⊥) → bare ≡ false → Misfits p u l low high → (pushes p l ≡ true) × (low ≡ pos 8)
+  pushed_at_eight n b (inl m) = absurd (m same)
+  pushed_at_eight n b (inr (inl (o, h, e))) = absurd (n e)
+  pushed_at_eight n b (inr (inr (inl (o, h, e)))) = (h, e)
+  pushed_at_eight n b (inr (inr (inr (inl (o, k, m))))) = absurd (none_of_three (is_exit (line_at p l)) (is_begin (line_at p l)) (is_end (line_at p l)) b k)
+  pushed_at_eight n b (inr (inr (inr (inr (e, m))))) = absurd (omega arith)
 
-  pub push-misfits : low ≡ pos 8 → pushes p l ≡ true → Misfits p u l low high
-  push-misfits e h = inr (inr (inl (own, h, e)))
+  pub push_misfits : low ≡ pos 8 → pushes p l ≡ true → Misfits p u l low high
+  push_misfits e h = inr (inr (inl (own, h, e)))

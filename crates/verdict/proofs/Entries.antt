@@ -26,8 +26,8 @@ module _ (u : UnitText) (table : List (Option Entry)) (s : Surveyed (program_of 
   held : (l : ℕ) (v w : Entry) → get_or table (l - u.first) None ≡ Some v → get_or table (l - u.first) None ≡ Some w → DepthRange (program_of u) u.id l w.1.0 w.1.1 → DepthRange (program_of u) u.id l v.1.0 v.1.1
   held l v w e f d = let q : w ≡ v = cc in subst (λ (x : Entry). DepthRange (program_of u) u.id l x.1.0 x.1.1) q d
 
-  first-is : (l : ℕ) → l - first (program_of u) u.id ≡ l - u.first
-  first-is l = let a = u.first_is in omega arith
+  offset_is : (l : ℕ) → l - first (program_of u) u.id ≡ l - u.first
+  offset_is l = let a = u.first_is in omega arith
 
   pub place : (l : ℕ) → u.first ≤ l → l ≤ u.end → (r : Option Entry) (v : Entry) → r ≡ get_or table (l - u.first) r → r ≡ Some v → OwnOrEnd (program_of u) u.id l
   place l h g r v e q =
@@ -38,7 +38,7 @@ module _ (u : UnitText) (table : List (Option Entry)) (s : Surveyed (program_of 
   pub range : (l : ℕ) → u.first ≤ l → l ≤ u.end → (r : Option Entry) (v : Entry) → r ≡ get_or table (l - u.first) r → r ≡ Some v → DepthRange (program_of u) u.id l v.1.0 v.1.1
   range l h g r v e q =
       let w = s.entry l (place l h g r v e q) in
-      held l v w.0 (read l h g r e ∙ q) (ap (λ (k : ℕ). get_or table k None) (sym (first-is l)) ∙ w.1) w.3
+      held l v w.0 (read l h g r e ∙ q) (ap (λ (k : ℕ). get_or table k None) (sym (offset_is l)) ∙ w.1) w.3
 
   -- no route comes where there is no entry
   arrived : (l : ℕ) → IsBadIn (program_of u) u.id l → OwnOrEnd (program_of u) u.id l
@@ -48,7 +48,7 @@ module _ (u : UnitText) (table : List (Option Entry)) (s : Surveyed (program_of 
   pub no_entry : (l : ℕ) → u.first ≤ l → l ≤ u.end → (r : Option Entry) → r ≡ get_or table (l - u.first) r → r ≡ None → IsBadIn (program_of u) u.id l → ⊥
   no_entry l h g r e q b =
       let w = s.entry l (arrived l b) in
-      let f : get_or table (l - u.first) None ≡ Some w.0 = ap (λ (k : ℕ). get_or table k None) (sym (first-is l)) ∙ w.1 in
+      let f : get_or table (l - u.first) None ≡ Some w.0 = ap (λ (k : ℕ). get_or table k None) (sym (offset_is l)) ∙ w.1 in
       let n : get_or table (l - u.first) None ≡ None = read l h g r e ∙ q in
       let z : ◌≡◌ {A = ℕ} 0 1 = cc in
       omega arith

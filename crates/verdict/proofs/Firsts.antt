@@ -26,8 +26,8 @@ finds_same f g None x = λ l b. x l (g l b)
 finds_same f g (Some a) x = (f a x.0, λ k e b. x.1 k e (g k b))
 
 module _ (p : Program) where
-  at-nth : (n l : ℕ) (a : IsBadAmong p (n + 1) l) → IsBadAmong p n l ⊎ (Real p (nth_unit n) × IsBadIn p (nth_unit n) l)
-  at-nth n l a = elim (cases_order a.nth n) [
+  at_nth : (n l : ℕ) (a : IsBadAmong p (n + 1) l) → IsBadAmong p n l ⊎ (Real p (nth_unit n) × IsBadIn p (nth_unit n) l)
+  at_nth n l a = elim (cases_order a.nth n) [
     | inl e ↦ inr (subst (λ (i : ℕ). Real p (nth_unit i)) e a.real, subst (λ (i : ℕ). IsBadIn p (nth_unit i) l) e a.bad)
     | inr (inl h) ↦ inl (record { nth = a.nth; before = h; real = a.real; bad = a.bad })
     | inr (inr h) ↦ absurd (let b = a.before in omega arith)
@@ -39,33 +39,33 @@ module _ (p : Program) where
   pub with_unit : (n : ℕ) (u : UnitId) → u ≡ nth_unit n → Real p u → (a b : Option ℕ) → Finds (IsBadAmong p n) a → Finds (IsBadIn p u) b → Finds (IsBadAmong p (n + 1)) (earliest a b)
   with_unit n u e r a b x y =
       finds_either (wider n) (λ l c. record { nth = n; before = omega arith; real = subst (Real p) e r; bad = subst (λ (v : UnitId). IsBadIn p v l) e c })
-      (λ l c. elim (at-nth n l c) [ inl w ↦ inl w | inr w ↦ inr (subst (λ (v : UnitId). IsBadIn p v l) (sym e) w.1) ]) a b x y
+      (λ l c. elim (at_nth n l c) [ inl w ↦ inl w | inr w ↦ inr (subst (λ (v : UnitId). IsBadIn p v l) (sym e) w.1) ]) a b x y
 
-  pub without-unit : (n : ℕ) (u : UnitId) → u ≡ nth_unit n → (Real p u → ⊥) → (a : Option ℕ) → Finds (IsBadAmong p n) a → Finds (IsBadAmong p (n + 1)) a
-  without-unit n u e absent a x = finds_same (wider n) (λ l c. elim (at-nth n l c) [ inl w ↦ w | inr w ↦ absurd (absent (subst (Real p) (sym e) w.0)) ]) a x
+  pub without_unit : (n : ℕ) (u : UnitId) → u ≡ nth_unit n → (Real p u → ⊥) → (a : Option ℕ) → Finds (IsBadAmong p n) a → Finds (IsBadAmong p (n + 1)) a
+  without_unit n u e absent a x = finds_same (wider n) (λ l c. elim (at_nth n l c) [ inl w ↦ w | inr w ↦ absurd (absent (subst (Real p) (sym e) w.0)) ]) a x
 
   pub none_yet : Finds (IsBadAmong p 0) None
   none_yet l a = let b = a.before in omega arith
 
   -- every unit has its number in the row
-  nth-module : (m : ℕ) → m < 7 → nth_unit m ≡ Module m
-  nth-module m h = ap (λ (b : Bool). cond b (Module m) (Mechanism (m - 7))) (lt-ltb m 7 h)
+  nth_module : (m : ℕ) → m < 7 → nth_unit m ≡ Module m
+  nth_module m h = ap (λ (b : Bool). cond b (Module m) (Mechanism (m - 7))) (lt-ltb m 7 h)
 
-  nth-mechanism : (k : ℕ) → nth_unit (k + 7) ≡ Mechanism k
-  nth-mechanism k = elim (cases_lt (k + 7) 7) [ inl h ↦ absurd (omega arith) | inr h ↦ ap (λ (b : Bool). cond b (Module (k + 7)) (Mechanism (k + 7 - 7))) (le-ltb (k + 7) 7 h) ∙ (let e : k + 7 - 7 ≡ k = omega arith in ap Mechanism e) ]
+  nth_mechanism : (k : ℕ) → nth_unit (k + 7) ≡ Mechanism k
+  nth_mechanism k = elim (cases_lt (k + 7) 7) [ inl h ↦ absurd (omega arith) | inr h ↦ ap (λ (b : Bool). cond b (Module (k + 7)) (Mechanism (k + 7 - 7))) (le-ltb (k + 7) 7 h) ∙ (let e : k + 7 - 7 ≡ k = omega arith in ap Mechanism e) ]
 
   module _ (seven : length p.lengths ≤ 7) where
     among : (u : UnitId) (l : ℕ) → Real p u → IsBadIn p u l → IsBadAmong p (length p.activation + 7) l
-    among (Module m) l r b = let h : m < 7 = omega arith in record { nth = m; before = omega arith; real = subst (Real p) (sym (nth-module m h)) r; bad = subst (λ (v : UnitId). IsBadIn p v l) (sym (nth-module m h)) b }
-    among (Mechanism k) l r b = record { nth = k + 7; before = omega arith; real = subst (Real p) (sym (nth-mechanism k)) r; bad = subst (λ (v : UnitId). IsBadIn p v l) (sym (nth-mechanism k)) b }
+    among (Module m) l r b = let h : m < 7 = omega arith in record { nth = m; before = omega arith; real = subst (Real p) (sym (nth_module m h)) r; bad = subst (λ (v : UnitId). IsBadIn p v l) (sym (nth_module m h)) b }
+    among (Mechanism k) l r b = record { nth = k + 7; before = omega arith; real = subst (Real p) (sym (nth_mechanism k)) r; bad = subst (λ (v : UnitId). IsBadIn p v l) (sym (nth_mechanism k)) b }
 
-    to-depth : (u : UnitId) (l : ℕ) → Real p u → IsBadIn p u l → IsBadDepth p l
-    to-depth u l r (differ x y n) = two_depths r x y n
-    to-depth u l r (misfit x o) = off r x o
+    to_depth : (u : UnitId) (l : ℕ) → Real p u → IsBadIn p u l → IsBadDepth p l
+    to_depth u l r (differ x y n) = two_depths r x y n
+    to_depth u l r (misfit x o) = off r x o
 
-    from-depth : (l : ℕ) → IsBadDepth p l → IsBadAmong p (length p.activation + 7) l
-    from-depth l (two_depths {u = u} r x y n) = among u l r (differ x y n)
-    from-depth l (off {u = u} r x o) = among u l r (misfit x o)
+    from_depth : (l : ℕ) → IsBadDepth p l → IsBadAmong p (length p.activation + 7) l
+    from_depth l (two_depths {u = u} r x y n) = among u l r (differ x y n)
+    from_depth l (off {u = u} r x o) = among u l r (misfit x o)
 
     pub all_units : (o : Option ℕ) → Finds (IsBadAmong p (length p.activation + 7)) o → Finds (IsBadDepth p) o
-    all_units o x = finds_same (λ l a. to-depth (nth_unit a.nth) l a.real a.bad) from-depth o x
+    all_units o x = finds_same (λ l a. to_depth (nth_unit a.nth) l a.real a.bad) from_depth o x

@@ -22,11 +22,11 @@ no_entry zero (suc n) = refl
 no_entry (suc m) (suc n) = no_entry m n
 
 module _ (p : Program) (e : p ≡ null_program) where
-  pub null-unbroken : Unbroken p
-  null-unbroken rule place h b = null_accepted.0.unbroken rule place (subst (λ (q : Program). Breaks q rule place) e b)
+  pub null_unbroken : Unbroken p
+  null_unbroken rule place h b = null_accepted.0.unbroken rule place (subst (λ (q : Program). Breaks q rule place) e b)
 
-  pub null-starts : (starts : List ℕ) → starts ≡ replicate 8 0 → StartsAre p starts
-  null-starts starts s m h = ap (λ (xs : List ℕ). get_or xs m 0) s ∙ no_entry m 8 ∙ sym (no_total m 7) ∙ ap (λ (q : Program). module_first q m) (sym e)
+  pub null_starts : (starts : List ℕ) → starts ≡ replicate 8 0 → StartsAre p starts
+  null_starts starts s m h = ap (λ (xs : List ℕ). get_or xs m 0) s ∙ no_entry m 8 ∙ sym (no_total m 7) ∙ ap (λ (q : Program). module_first q m) (sym e)
 
   none : (k : ℕ) → k < length p.activation → ⊥
   none k h = let q : length p.activation ≡ 0 = ap (λ (q : Program). length q.activation) e in omega arith
@@ -34,14 +34,14 @@ module _ (p : Program) (e : p ≡ null_program) where
   no_line : (l : ℕ) → l < length p.lines → ⊥
   no_line l h = let q : length p.lines ≡ 0 = ap (λ (q : Program). length q.lines) e in omega arith
 
-  pub null-begins : (begins : List ℕ) → BeginsAre p begins
-  null-begins begins k h = absurd (none k h)
+  pub null_begins : (begins : List ℕ) → BeginsAre p begins
+  null_begins begins k h = absurd (none k h)
 
-  pub null-ends : (ends : List ℕ) → EndsAre p ends
-  null-ends ends k h = absurd (none k h)
+  pub null_ends : (ends : List ℕ) → EndsAre p ends
+  null_ends ends k h = absurd (none k h)
 
-  pub null-flags : (flags : List Bool) → FlagsAre p flags
-  null-flags flags l h = absurd (no_line l h)
+  pub null_flags : (flags : List Bool) → FlagsAre p flags
+  null_flags flags l h = absurd (no_line l h)
 
-  pub null-units : (units : List UnitId) → UnitsAre p units
-  null-units units l h = absurd (no_line l h)
+  pub null_units : (units : List UnitId) → UnitsAre p units
+  null_units units l h = absurd (no_line l h)

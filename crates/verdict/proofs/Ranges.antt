@@ -21,28 +21,28 @@ between low d high a b e = omega (arith, ints)
 
 module _ (p : Program) (u : UnitId) (l : ℕ) (low high : ℤ) (range : DepthRange p u l low high) where
   -- every route comes with the one depth, where there is one
-  one-depth : low ≡ high → (path : List ℕ) → Arrives p u path l → depth p path ≡ low
-  one-depth e path a = between low (depth p path) high (range.none_below path a) (range.none_above path a) e
+  one_depth : low ≡ high → (path : List ℕ) → Arrives p u path l → depth p path ≡ low
+  one_depth e path a = between low (depth p path) high (range.none_below path a) (range.none_above path a) e
 
-  pub bad-from : Misfits p u l low high → IsBadIn p u l
-  bad-from (inl n) = differ range.low_attained.1 range.high_attained.1 (λ e. n (sym range.low_attained.2 ∙ e ∙ range.high_attained.2))
-  bad-from (inr o) = misfit range.low_attained.1 (subst (OffBalance p u l) (sym range.low_attained.2) o)
+  pub bad_from : Misfits p u l low high → IsBadIn p u l
+  bad_from (inl n) = differ range.low_attained.1 range.high_attained.1 (λ e. n (sym range.low_attained.2 ∙ e ∙ range.high_attained.2))
+  bad_from (inr o) = misfit range.low_attained.1 (subst (OffBalance p u l) (sym range.low_attained.2) o)
 
-  pub bad-to : IsBadIn p u l → Misfits p u l low high
-  bad-to (differ {a = a} {b = b} x y n) = inl (λ e. n (one-depth e a x ∙ sym (one-depth e b y)))
-  bad-to (misfit {a = a} x o) = elim (same_depth low high) [ inl e ↦ inr (subst (OffBalance p u l) (one-depth e a x) o) | inr n ↦ inl n ]
+  pub bad_to : IsBadIn p u l → Misfits p u l low high
+  bad_to (differ {a = a} {b = b} x y n) = inl (λ e. n (one_depth e a x ∙ sym (one_depth e b y)))
+  bad_to (misfit {a = a} x o) = elim (same_depth low high) [ inl e ↦ inr (subst (OffBalance p u l) (one_depth e a x) o) | inr n ↦ inl n ]
 
 -- at the unit's end only the depth 0 serves
 module _ (p : Program) (u : UnitId) (sound : Sound p u) (low high : ℤ) where
   not_own : Own p u (end p u) → ⊥
   not_own o = let h = sound.high (end p u) o in omega arith
 
-  pub level-end : low ≡ pos 0 → high ≡ pos 0 → Misfits p u (end p u) low high → ⊥
-  level-end e f (inl n) = n (e ∙ sym f)
-  level-end e f (inr (inl (o, h, q))) = not_own o
-  level-end e f (inr (inr (inl (o, h, q)))) = not_own o
-  level-end e f (inr (inr (inr (inl (o, h, q))))) = not_own o
-  level-end e f (inr (inr (inr (inr (h, n))))) = n e
+  pub level_end : low ≡ pos 0 → high ≡ pos 0 → Misfits p u (end p u) low high → ⊥
+  level_end e f (inl n) = n (e ∙ sym f)
+  level_end e f (inr (inl (o, h, q))) = not_own o
+  level_end e f (inr (inr (inl (o, h, q)))) = not_own o
+  level_end e f (inr (inr (inr (inl (o, h, q))))) = not_own o
+  level_end e f (inr (inr (inr (inr (h, n))))) = n e
 
   pub low_end : (low ≡ pos 0 → ⊥) → Misfits p u (end p u) low high
   low_end n = inr (inr (inr (inr (refl, n))))

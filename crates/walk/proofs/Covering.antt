@@ -32,17 +32,17 @@ covers_same join S T None f g c = λ x t. c x (g x t)
 covers_same join S T (Some v) f g c = joinof_same f g c
 
 module _ {V : Type 0} {join : V → V → V} {effect : ℕ → Line → V → V} (laws : Laws join effect) where
-  pub joinof-one : (x : V) → JoinOf join (λ y. x ≡ y) x
-  joinof-one x = record { built = one refl; takes_in = λ y e. subst (λ z. join z x ≡ x) e (laws.idem x) }
+  pub joinof_one : (x : V) → JoinOf join (λ y. x ≡ y) x
+  joinof_one x = record { built = one refl; takes_in = λ y e. subst (λ z. join z x ≡ x) e (laws.idem x) }
 
-  image-built : (i : ℕ) (l : Line) {S : V → Type 0} {v : V} → Built join S v → Built join (Image (effect i l) S) (effect i l v)
-  image-built i l (one s) = one (_, s, refl)
-  image-built i l (both {x} {y} p q) =
-      subst (Built join (Image (effect i l) _)) (sym (laws.spread i l x y)) (both (image-built i l p) (image-built i l q))
+  image_built : (i : ℕ) (l : Line) {S : V → Type 0} {v : V} → Built join S v → Built join (Image (effect i l) S) (effect i l v)
+  image_built i l (one s) = one (_, s, refl)
+  image_built i l (both {x} {y} p q) =
+      subst (Built join (Image (effect i l) _)) (sym (laws.spread i l x y)) (both (image_built i l p) (image_built i l q))
 
-  pub joinof-image : (i : ℕ) (l : Line) {S : V → Type 0} {v : V} → JoinOf join S v → JoinOf join (Image (effect i l) S) (effect i l v)
-  joinof-image i l {S} {v} j = record {
-    built = image-built i l j.built;
+  pub joinof_image : (i : ℕ) (l : Line) {S : V → Type 0} {v : V} → JoinOf join S v → JoinOf join (Image (effect i l) S) (effect i l v)
+  joinof_image i l {S} {v} j = record {
+    built = image_built i l j.built;
     takes_in = λ y m. ap (λ z. join z (effect i l v)) (sym m.2) ∙ sym (laws.spread i l m.0 v) ∙ ap (effect i l) (j.takes_in m.0 m.1);
   }
 
@@ -72,14 +72,14 @@ module _ {V : Type 0} {join : V → V → V} {effect : ℕ → Line → V → V}
       At : ℕ → Type 0
       At m = Covers join (Plus S k T m) (get_or (put join t (k - from) x) (m - from) None)
 
-      at-k : At k
-      at-k =
+      at_k : At k
+      at_k =
           subst (Covers join (Plus S k T k)) (sym (get_or-set_same t (k - from) _ None room))
           (covers_same join _ _ _ (λ _. ⊎_elim inl (λ y. inr (refl, y))) (λ _. ⊎_elim inl (λ y. inr y.1))
           (covers_more (S k) T (get_or t (k - from) None) x (h.at k low within) j))
 
       here : (m : ℕ) → m ≡ k → At m
-      here m e = subst At (sym e) at-k
+      here m e = subst At (sym e) at_k
 
       there : (m : ℕ) → from ≤ m → m ≤ to → (m ≡ k → ⊥) → At m
       there m a b ne =

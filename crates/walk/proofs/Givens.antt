@@ -8,7 +8,7 @@ use Rattle.rules.specs.Image.{line_section}
 use Rattle.image.specs.Held.{meant}
 use Rattle.text.specs.declared.formed.Formed as text
 use Rattle.text.proofs.Shape.{formed_by_rules}
-use Rattle.theory.proofs.Text.{end-within}
+use Rattle.theory.proofs.Text.{end_within}
 use Rattle.theory.proofs.Orderly.{orderly}
 use Rattle.theory.proofs.Spans.{span}
 use Rattle.walk.specs.Units.{Had}
@@ -25,8 +25,8 @@ module _ (f : text.Formed) (k : ℕ) (within : k < vec_len f.program.activation)
   real = let o = f.program.activation.ok.0 in omega arith
 
   -- the MECH_BEGIN and the MECH_END of a mechanism, as the tables have them
-  pub begin-read : (b : ℕ) → b ≡ get_or (vec_items f.begins) k b → b ≡ begin_line (meant f.program) k
-  begin-read b r =
+  pub begin_read : (b : ℕ) → b ≡ get_or (vec_items f.begins) k b → b ≡ begin_line (meant f.program) k
+  begin_read b r =
       let room : k < length (vec_items f.begins) = omega (arith, f.begins.ok.0, f.begins_count) in
       get_or_read _ _ _ room r 0 ∙ f.begins_are k real
 
@@ -36,11 +36,11 @@ module _ (f : text.Formed) (k : ℕ) (within : k < vec_len f.program.activation)
       get_or_read _ _ _ room r 0 ∙ f.ends_are k real
 
   -- they are lines of the program
-  pub span-few : (begin_line (meant f.program) k < 2048) × (end_line (meant f.program) k < 2048)
-  span-few =
+  pub span_few : (begin_line (meant f.program) k < 2048) × (end_line (meant f.program) k < 2048)
+  span_few =
       let g = formed_by_rules f in
       let s = span (meant f.program) g.shaped (orderly (meant f.program) g) k real in
-      let w = end-within (meant f.program) main_module g.shaped.all_lines in
+      let w = end_within (meant f.program) main_module g.shaped.all_lines in
       let n = lines_few f in
       let a = s.order in
       let b = s.to in

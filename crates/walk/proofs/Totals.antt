@@ -10,20 +10,20 @@ use Rattle.walk.specs.Joins.{Laws, JoinOf}
 use Rattle.walk.specs.Walked.{OwnOrEnd, along, Brought, Whole, Walked}
 use Rattle.walk.specs.Stages.{Stopped, ended, stopped_before}
 use Rattle.walk.proofs.Sound.{Sound}
-use Rattle.walk.proofs.Covering.{Image, joinof-image, joinof_same, covers_more}
-use Rattle.walk.proofs.Walking.{none_some, some_same, own-before, Out}
+use Rattle.walk.proofs.Covering.{Image, joinof_image, joinof_same, covers_more}
+use Rattle.walk.proofs.Walking.{none_some, some_same, own_before, Out}
 
 module _ (p : Program) (u : UnitId) (sound : Sound p u) {V : Type 0} (start : V) (effect : ℕ → Line → V → V) {join : V → V → V} (t : List (Option V)) (table : Walked start effect join p u t) where
   -- a line with an entry is an own line or the end
-  pub entry-own : (l : ℕ) (v : V) → first p u ≤ l → get_or t (l - first p u) None ≡ Some v → OwnOrEnd p u l
-  entry-own l v low read =
+  pub entry_own : (l : ℕ) (v : V) → first p u ≤ l → get_or t (l - first p u) None ≡ Some v → OwnOrEnd p u l
+  entry_own l v low read =
       let q : first p u + (l - first p u) ≡ l = omega arith in
       subst (OwnOrEnd p u) q (table.nowhere_else (l - first p u) v read)
 
   -- and its entry is the join over the routes that arrive there
-  pub entry-joins : (l : ℕ) (v : V) → first p u ≤ l → get_or t (l - first p u) None ≡ Some v → JoinOf join (Brought start effect p u l) v
-  entry-joins l v low read =
-      let e = table.entry l (entry-own l v low read) in
+  pub entry_joins : (l : ℕ) (v : V) → first p u ≤ l → get_or t (l - first p u) None ≡ Some v → JoinOf join (Brought start effect p u l) v
+  entry_joins l v low read =
+      let e = table.entry l (entry_own l v low read) in
       subst (JoinOf join (Brought start effect p u l)) (some_same e.1 read) e.2
 
   wider : (i : ℕ) (v : V) → Stopped start effect p u i v → Stopped start effect p u (i + 1) v
@@ -48,23 +48,23 @@ module _ (p : Program) (u : UnitId) (sound : Sound p u) {V : Type 0} (start : V)
   pub takes : (laws : Laws join effect) (i : ℕ) (best v : V) → first p u ≤ i → i < end p u → is_exit (line_at p i) ≡ true → get_or t (i - first p u) None ≡ Some v → JoinOf join (Stopped start effect p u i) best → JoinOf join (Stopped start effect p u (i + 1)) (join best (effect i (line_at p i) v))
   takes laws i best v low h exit read j =
       joinof_same (λ x m. ⊎_elim (wider i x) (λ o. new x o) m) (λ x s. ⊎_elim inl (λ m. inr m.1) (narrower i x s))
-      (covers_more laws (Stopped start effect p u i) (Out p u sound start effect i) (Some best) (effect i (line_at p i) v) j (joinof-image laws i (line_at p i) (entry-joins i v low read)))
+      (covers_more laws (Stopped start effect p u i) (Out p u sound start effect i) (Some best) (effect i (line_at p i) v) j (joinof_image laws i (line_at p i) (entry_joins i v low read)))
     where
       new : (x : V) → Out p u sound start effect i x → Stopped start effect p u (i + 1) x
-      new x o = stopped_before o.1.1 (own-before p u sound i h (entry-own i v low read)) (omega arith) exit (ap (effect i (line_at p i)) o.1.2 ∙ o.2)
+      new x o = stopped_before o.1.1 (own_before p u sound i h (entry_own i v low read)) (omega arith) exit (ap (effect i (line_at p i)) o.1.2 ∙ o.2)
 
   pub some_end : get_or t (end p u - first p u) None ≡ None → ⊥
   some_end read = none_some read (table.entry (end p u) (inr refl)).1
 
   pub from_end : (v : V) → get_or t (end p u - first p u) None ≡ Some v → JoinOf join (Stopped start effect p u (first p u)) v
-  from_end v read = joinof_same (λ x b. ended b.1 b.2) back (entry-joins (end p u) v sound.order read)
+  from_end v read = joinof_same (λ x b. ended b.1 b.2) back (entry_joins (end p u) v sound.order read)
     where
       back : (x : V) → Stopped start effect p u (first p u) x → Brought start effect p u (end p u) x
       back x (ended a e) = (_, a, e)
       back x (stopped_before {a} r o b y e) = let l = sound.low a o in absurd (omega arith)
 
-  pub in-total : (best : V) → JoinOf join (Stopped start effect p u (end p u)) best → JoinOf join (Whole start effect p u) best
-  in-total best j = joinof_same there (λ x m. back x m.0 m.1 m.2) j
+  pub in_total : (best : V) → JoinOf join (Stopped start effect p u (end p u)) best → JoinOf join (Whole start effect p u) best
+  in_total best j = joinof_same there (λ x m. back x m.0 m.1 m.2) j
     where
       there : (x : V) → Stopped start effect p u (end p u) x → Whole start effect p u x
       there x (ended a e) = (_, to_end a, e)

@@ -13,7 +13,7 @@ use Rattle.walk.specs.Walked.{OwnOrEnd, along, Brought, Walked}
 use Rattle.walk.specs.Stages.{Covers, Holds, Recent, Stage, Staged}
 use Rattle.walk.proofs.Codes.{exits_begins, jumps_ex, exit_jump}
 use Rattle.walk.proofs.Sound.{Sound, place_low, place_high}
-use Rattle.walk.proofs.Covering.{Image, Plus, put, joinof-one, joinof-image, joinof_same, holds_more, holds_same}
+use Rattle.walk.proofs.Covering.{Image, Plus, put, joinof_one, joinof_image, joinof_same, holds_more, holds_same}
 
 -- a set that has a join has a member
 member : {V : Type 0} {join : V → V → V} {S : V → Type 0} {v : V} → Built join S v → (x : V) × S x
@@ -32,28 +32,28 @@ after_exit p l x = cond-false (is_begin (line_at p l)) (end_line p (line_at p l)
 
 module _ (p : Program) (u : UnitId) (sound : Sound p u) where
   -- a place before the end is an own line
-  pub own-before : (l : ℕ) → l < end p u → OwnOrEnd p u l → Own p u l
-  own-before l h (inl o) = o
-  own-before l h (inr e) = absurd (omega arith)
+  pub own_before : (l : ℕ) → l < end p u → OwnOrEnd p u l → Own p u l
+  own_before l h (inl o) = o
+  own_before l h (inr e) = absurd (omega arith)
 
   module _ {V : Type 0} (start : V) (effect : ℕ → Line → V → V) where
     -- at its own turn a line has all its routes
     turn_in : (k : ℕ) (v : V) → Stage start effect p u k k v → Brought start effect p u k v
     turn_in k v s = (s.0, s.1, s.3)
 
-    turn-out : (k : ℕ) (v : V) → Brought start effect p u k v → Stage start effect p u k k v
-    turn-out k v s = go s.0 s.1 s.2
+    turn_out : (k : ℕ) (v : V) → Brought start effect p u k v → Stage start effect p u k k v
+    turn_out k v s = go s.0 s.1 s.2
       where
         go : (path : List ℕ) → Arrives p u path k → along start effect p path ≡ v → Stage start effect p u k k v
         go [] (at_entry b) e = ([], at_entry b, omega arith, e)
         go (i ∷ path) (passed a o w) e = (i ∷ path, passed a o w, sound.way_rises i k o w, e)
 
     -- at the end all have
-    end-in : (k : ℕ) (v : V) → Stage start effect p u (end p u) k v → Brought start effect p u k v
-    end-in k v s = (s.0, s.1, s.3)
+    end_in : (k : ℕ) (v : V) → Stage start effect p u (end p u) k v → Brought start effect p u k v
+    end_in k v s = (s.0, s.1, s.3)
 
-    end-out : (k : ℕ) (v : V) → k ≤ end p u → Brought start effect p u k v → Stage start effect p u (end p u) k v
-    end-out k v b s = go s.0 s.1 s.2
+    end_out : (k : ℕ) (v : V) → k ≤ end p u → Brought start effect p u k v → Stage start effect p u (end p u) k v
+    end_out k v b s = go s.0 s.1 s.2
       where
         go : (path : List ℕ) → Arrives p u path k → along start effect p path ≡ v → Stage start effect p u (end p u) k v
         go [] (at_entry c) e = ([], at_entry c, b, e)
@@ -118,7 +118,7 @@ module _ (p : Program) (u : UnitId) (sound : Sound p u) where
           empty = subst (Covers join (Old i)) read (staged.at i low (omega arith))
 
           nobody : {path : List ℕ} → Arrives p u path i → ⊥
-          nobody {path} a = empty _ (turn-out i _ (path, a, refl))
+          nobody {path} a = empty _ (turn_out i _ (path, a, refl))
 
           back : (k : ℕ) (x : V) → Old k x ⊎ News i k x → Old k x
           back k x (inl s) = s
@@ -126,12 +126,12 @@ module _ (p : Program) (u : UnitId) (sound : Sound p u) where
           back k x (inr (inr m)) = absurd (nobody (sound.reached i (inl m.0)).1)
 
       module _ (v : V) (read : get_or t (i - first p u) None ≡ Some v) where
-        joins-old : JoinOf join (Brought start effect p u i) v
-        joins-old = joinof_same (turn_in i) (turn-out i) (subst (Covers join (Old i)) read (staged.at i low (omega arith)))
+        joins_old : JoinOf join (Brought start effect p u i) v
+        joins_old = joinof_same (turn_in i) (turn_out i) (subst (Covers join (Old i)) read (staged.at i low (omega arith)))
 
         -- a line with an entry is an own line
-        pub some-own : Own p u i
-        some-own = own-before i inside (sound.stays (member joins-old.built).1.1)
+        pub some_own : Own p u i
+        some_own = own_before i inside (sound.stays (member joins_old.built).1.1)
 
         module _ (laws : Laws join effect) where
           abbrev out : V
@@ -140,26 +140,26 @@ module _ (p : Program) (u : UnitId) (sound : Sound p u) where
           abbrev at_line : List (Option V) → ℕ → V → List (Option V)
           at_line w k x = put join w (k - first p u) x
 
-          joins-here : JoinOf join (Out i) out
-          joins-here = joinof-image laws i (line_at p i) joins-old
+          joins_here : JoinOf join (Out i) out
+          joins_here = joinof_image laws i (line_at p i) joins_old
 
           next_low : first p u ≤ after p i
-          next_low = place_low sound (after p i) (sound.after_stays i some-own)
+          next_low = place_low sound (after p i) (sound.after_stays i some_own)
 
-          next-high : after p i ≤ end p u
-          next-high = place_high sound (after p i) (sound.after_stays i some-own)
+          next_high : after p i ≤ end p u
+          next_high = place_high sound (after p i) (sound.after_stays i some_own)
 
           -- the line's value goes to the line that follows
-          to-next : Holds join (first p u) (end p u) (Plus Old (after p i) (Out i)) (at_line t (after p i) out)
-          to-next = holds_more laws _ (after p i) _ next_low next-high staged joins-here
+          to_next : Holds join (first p u) (end p u) (Plus Old (after p i) (Out i)) (at_line t (after p i) out)
+          to_next = holds_more laws _ (after p i) _ next_low next_high staged joins_here
 
           -- a line that is neither a jump nor of EX type
           pub goes_on : is_jump (line_at p i) ≡ false → is_exit (line_at p i) ≡ false → is_ex (line_at p i) ≡ false → Done (at_line t (after p i) out)
-          goes_on no_jump no-exit no-ex = done _ there back to-next
+          goes_on no_jump no-exit no-ex = done _ there back to_next
             where
               there : (k : ℕ) (x : V) → Plus Old (after p i) (Out i) k x → Old k x ⊎ News i k x
               there k x (inl s) = inl s
-              there k x (inr m) = inr (inl (some-own, inl (no-ex, m.0), m.1))
+              there k x (inr m) = inr (inl (some_own, inl (no-ex, m.0), m.1))
 
               goes : (k : ℕ) (x : V) → Way p i k → Out i x → Plus Old (after p i) (Out i) k x
               goes k x (inl w) m = inr (w.1, m)
@@ -171,18 +171,18 @@ module _ (p : Program) (u : UnitId) (sound : Sound p u) where
               back k x (inr (inr m)) = absurd (both_ways (is_exit (line_at p i)) no-exit m.1)
 
           pub jumping : is_jump (line_at p i) ≡ true → Done (at_line (at_line t (after p i) out) (line_at p i).operand out)
-          jumping jump = done _ there back (holds_more laws _ target _ (place_low sound target stays) (place_high sound target stays) to-next joins-here)
+          jumping jump = done _ there back (holds_more laws _ target _ (place_low sound target stays) (place_high sound target stays) to_next joins_here)
             where
               target : ℕ
               target = (line_at p i).operand
 
               stays : OwnOrEnd p u target
-              stays = sound.jump_stays i some-own jump
+              stays = sound.jump_stays i some_own jump
 
               there : (k : ℕ) (x : V) → Plus (Plus Old (after p i) (Out i)) target (Out i) k x → Old k x ⊎ News i k x
               there k x (inl (inl s)) = inl s
-              there k x (inl (inr m)) = inr (inl (some-own, inl (jumps_ex (line_at p i) jump, m.0), m.1))
-              there k x (inr m) = inr (inl (some-own, inr (jump, m.0), m.1))
+              there k x (inl (inr m)) = inr (inl (some_own, inl (jumps_ex (line_at p i) jump, m.0), m.1))
+              there k x (inr m) = inr (inl (some_own, inr (jump, m.0), m.1))
 
               goes : (k : ℕ) (x : V) → Way p i k → Out i x → Plus (Plus Old (after p i) (Out i)) target (Out i) k x
               goes k x (inl w) m = inl (inr (w.1, m))
@@ -194,14 +194,14 @@ module _ (p : Program) (u : UnitId) (sound : Sound p u) where
               back k x (inr (inr m)) = absurd (exit_jump (line_at p i) m.1 jump)
 
           pub ending : is_ex (line_at p i) ≡ true → Done (at_line t (after p i) start)
-          ending ex = done _ there back (holds_more laws _ (after p i) _ next_low next-high staged (joinof-one laws start))
+          ending ex = done _ there back (holds_more laws _ (after p i) _ next_low next_high staged (joinof_one laws start))
             where
               exit : is_exit (line_at p i) ≡ true
               exit = or_left (is_ex (line_at p i)) (eqb (line_at p i).code 12 || eqb (line_at p i).code 13) ex
 
               there : (k : ℕ) (x : V) → Plus Old (after p i) (λ y. start ≡ y) k x → Old k x ⊎ News i k x
               there k x (inl s) = inl s
-              there k x (inr m) = inr (inr (some-own, exit, m.0, m.1))
+              there k x (inr m) = inr (inr (some_own, exit, m.0, m.1))
 
               goes : (k : ℕ) (x : V) → Way p i k → Plus Old (after p i) (λ y. start ≡ y) k x
               goes k x (inl w) = absurd (both_ways (is_ex (line_at p i)) w.0 ex)
@@ -213,12 +213,12 @@ module _ (p : Program) (u : UnitId) (sound : Sound p u) where
               back k x (inr (inr m)) = inr (m.2, m.3)
 
           pub pausing : is_exit (line_at p i) ≡ true → is_ex (line_at p i) ≡ false → Done (at_line (at_line t (after p i) out) (after p i) start)
-          pausing exit no-ex = done _ there back (holds_more laws _ (after p i) _ next_low next-high to-next (joinof-one laws start))
+          pausing exit no-ex = done _ there back (holds_more laws _ (after p i) _ next_low next_high to_next (joinof_one laws start))
             where
               there : (k : ℕ) (x : V) → Plus (Plus Old (after p i) (Out i)) (after p i) (λ y. start ≡ y) k x → Old k x ⊎ News i k x
               there k x (inl (inl s)) = inl s
-              there k x (inl (inr m)) = inr (inl (some-own, inl (no-ex, m.0), m.1))
-              there k x (inr m) = inr (inr (some-own, exit, m.0, m.1))
+              there k x (inl (inr m)) = inr (inl (some_own, inl (no-ex, m.0), m.1))
+              there k x (inr m) = inr (inr (some_own, exit, m.0, m.1))
 
               goes : (k : ℕ) (x : V) → Way p i k → Out i x → Plus (Plus Old (after p i) (Out i)) (after p i) (λ y. start ≡ y) k x
               goes k x (inl w) m = inl (inr (w.1, m))
@@ -233,7 +233,7 @@ module _ (p : Program) (u : UnitId) (sound : Sound p u) where
     pub before : {join : V → V → V} (laws : Laws join effect) (t : List (Option V)) → t ≡ put join (replicate (end p u - first p u + 1) None) 0 start → Staged start effect join p u (first p u) t
     before {join} laws t is =
         subst (Staged start effect join p u (first p u)) (sym (is ∙ ap (λ n. put join blank n start) none))
-        (holds_same (Plus (λ _ _. ⊥) (first p u) (λ y. start ≡ y)) _ (λ k v a b. there k v) (λ k v a b. back k v) (holds_more laws _ (first p u) start (omega arith) sound.order nothing (joinof-one laws start)))
+        (holds_same (Plus (λ _ _. ⊥) (first p u) (λ y. start ≡ y)) _ (λ k v a b. there k v) (λ k v a b. back k v) (holds_more laws _ (first p u) start (omega arith) sound.order nothing (joinof_one laws start)))
       where
         blank : List (Option V)
         blank = replicate (end p u - first p u + 1) None
@@ -279,9 +279,9 @@ module _ (p : Program) (u : UnitId) (sound : Sound p u) where
         entry : (l : ℕ) → OwnOrEnd p u l → (o : Option V) → get_or t (l - first p u) None ≡ o → (v : V) × (get_or t (l - first p u) None ≡ Some v) × JoinOf join (Brought start effect p u l) v
         entry l s None e =
             let r = sound.reached l s in
-            absurd (subst (Covers join (Stage start effect p u (end p u) l)) e (covers l s) _ (end-out l _ (place_high sound l s) (r.0, r.1, refl)))
+            absurd (subst (Covers join (Stage start effect p u (end p u) l)) e (covers l s) _ (end_out l _ (place_high sound l s) (r.0, r.1, refl)))
         entry l s (Some v) e =
-            (v, e, joinof_same (end-in l) (λ x. end-out l x (place_high sound l s)) (subst (Covers join (Stage start effect p u (end p u) l)) e (covers l s)))
+            (v, e, joinof_same (end_in l) (λ x. end_out l x (place_high sound l s)) (subst (Covers join (Stage start effect p u (end p u) l)) e (covers l s)))
 
         place : (k : ℕ) (v : V) → first p u + k ≤ end p u → get_or t k None ≡ Some v → OwnOrEnd p u (first p u + k)
         place k v b e =

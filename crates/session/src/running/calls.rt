@@ -5,7 +5,7 @@ ghost use Rattle.rules.specs.declared.session.Answer.TheVariants.{Scanned, Done,
 ghost use Rattle.rules.specs.Session.{after_report, zav_fce, block_points_back};
 ghost use Rattle.machine.specs.Views.{program_of, memory_of};
 ghost use Rattle.session.specs.Calls.{call_of};
-ghost use Rattle.session.specs.Called.{Started, Called, Halted-from};
+ghost use Rattle.session.specs.Called.{Started, Called, HaltedFrom};
 
 use super::{Halted, Running};
 use crate::answer::{CallFault, ScanAnswer};
@@ -125,7 +125,7 @@ impl<C: Cabinet> Running<'_, C> {
 
     /// The halt: runs HALT and sends the outputs. What is left has no call.
     pub fn halt(self) -> Halted<C>
-        ensures { Halted-from C.Cabinet.meaning self.entry result }
+        ensures { HaltedFrom C.Cabinet.meaning self.entry result }
     {
         let Running {
             program,

@@ -1,9 +1,9 @@
 use Rattle.std.proofs.Common.{refl, ◌∙◌, arith}
-use Rattle.cabinet.proofs.Overlays.{over-more, over-whole, length-outputs, get_or-outputs}
+use Rattle.cabinet.proofs.Overlays.{over_more, over_whole, length-outputs, get_or-outputs}
 use Rattle.cabinet.proofs.ports.send.Goals as goal
 
 pub loop-port-init : goal.loop-port-init
-loop-port-init g c = record { terminals-are = refl; inputs-stay = refl; rest-stays = g.met.C.Cabinet.lawful.keeps_same _ }
+loop-port-init g c = record { terminals_are = refl; inputs_stay = refl; rest_stays = g.met.C.Cabinet.lawful.keeps_same _ }
 
 pub loop-port-preserved : goal.loop-port-preserved
 loop-port-preserved g c =
@@ -12,16 +12,16 @@ loop-port-preserved g c =
     let so_far = c.loop-port.invariant in
     let sent = c.write_at.ensures in
     record {
-      terminals-are = over-more _ _ _ _ _ _ sent.terminals-are (omega arith) (omega arith) so_far.terminals-are (get_or-outputs c.args.bytes.now _ c.loop-port-test.true);
-      inputs-stay = sent.inputs-stay ∙ so_far.inputs-stay;
-      rest-stays = g.met.C.Cabinet.lawful.keeps_on _ _ _ so_far.rest-stays sent.rest-stays;
+      terminals_are = over_more _ _ _ _ _ _ sent.terminals_are (omega arith) (omega arith) so_far.terminals_are (get_or-outputs c.args.bytes.now _ c.loop-port-test.true);
+      inputs_stay = sent.inputs_stay ∙ so_far.inputs_stay;
+      rest_stays = g.met.C.Cabinet.lawful.keeps_on _ _ _ so_far.rest_stays sent.rest_stays;
     }
 
 pub returns : goal.returns
 returns g c =
     let so_far = c.loop-port.invariant in
     record {
-      terminals-are = over-whole _ _ _ c.loop-port.port (omega arith) (length-outputs c.args.bytes.now (omega arith)) (g.met.C.Cabinet.lawful.eight_terminals c.args.cabinet.now).eight so_far.terminals-are;
-      inputs-stay = so_far.inputs-stay;
-      rest-stays = so_far.rest-stays;
+      terminals_are = over_whole _ _ _ c.loop-port.port (omega arith) (length-outputs c.args.bytes.now (omega arith)) (g.met.C.Cabinet.lawful.eight_terminals c.args.cabinet.now).eight so_far.terminals_are;
+      inputs_stay = so_far.inputs_stay;
+      rest_stays = so_far.rest_stays;
     }

@@ -13,8 +13,8 @@ held bytes e = record { bytes = bytes; eight = e.eight; small = e.small }
 
 patch_serves : Serving patch_meaning
 patch_serves = record {
-  sends = λ p bytes e. (record { inputs = p.inputs; terminals = held bytes e }, record { terminals-are = refl; inputs-stay = refl; rest-stays = tt });
-  advances = λ p. (record { inputs = p.terminals; terminals = p.terminals }, record { terminals-stay = refl; inputs_are = refl; rest-moves = tt });
+  sends = λ p bytes e. (record { inputs = p.inputs; terminals = held bytes e }, record { terminals_are = refl; inputs_stay = refl; rest_stays = tt });
+  advances = λ p. (record { inputs = p.terminals; terminals = p.terminals }, record { terminals_stay = refl; inputs_are = refl; rest_moves = tt });
 }
 
 module _ (s : Stimulus) where
@@ -35,8 +35,8 @@ module _ (s : Stimulus) where
 
 stimulus_serves : Serving stimulus_meaning
 stimulus_serves = record {
-  sends = λ s bytes e. (sent s bytes e, record { terminals-are = refl; inputs-stay = refl; rest-stays = (refl, refl, refl) });
-  advances = λ s. (advanced s, record { terminals-stay = refl; inputs_are = refl; rest-moves = (refl, refl, refl) });
+  sends = λ s bytes e. (sent s bytes e, record { terminals_are = refl; inputs_stay = refl; rest_stays = (refl, refl, refl) });
+  advances = λ s. (advanced s, record { terminals_stay = refl; inputs_are = refl; rest_moves = (refl, refl, refl) });
 }
 
 pub returns : goal.returns

@@ -5,7 +5,7 @@ use Rattle.rules.specs.Route.{Takes, ScanTakes, Greatest}
 use Rattle.image.specs.Held.{meant}
 use Rattle.text.proofs.Shape.{shaped}
 use Rattle.theory.proofs.Text.{named}
-use Rattle.certificate.proofs.Scanning.{few_steps, scan-greatest}
+use Rattle.certificate.proofs.Scanning.{few_steps, scan_greatest}
 use Rattle.certificate.proofs.bounds.scan_bound.Goals as goal
 
 pub bound-of-requires-4 : goal.bound-of-requires-4
@@ -37,4 +37,4 @@ pub returns : goal.returns
 returns c =
     let p = meant c.args.formed.now.program in
     subst (λ (n : ℕ). Greatest (ScanTakes p) (c.in-ok-input.input + n + c.in-ok-main.main)) (sym c.max.ensures)
-    (scan-greatest p c.in-ok-input.ensures c.in-ok-block-init.ensures c.in-ok-block-done.ensures c.in-ok-main.ensures)
+    (scan_greatest p c.in-ok-input.ensures c.in-ok-block-init.ensures c.in-ok-block-done.ensures c.in-ok-main.ensures)

@@ -3,7 +3,7 @@ use Rattle.walk.specs.UnitTexts.{program_of}
 use Rattle.walk.proofs.Givens.{unit_sound}
 use Rattle.walk.proofs.Walking.{some_same}
 use Rattle.certificate.specs.Longest.{LongestAt, Goes_on}
-use Rattle.certificate.proofs.Back.{one-back, begun}
+use Rattle.certificate.proofs.Back.{one_back, begun}
 use Rattle.certificate.proofs.routes.back.Goals as goal
 
 pub loop-left-init : goal.loop-left-init
@@ -32,7 +32,7 @@ loop-left-preserved c =
       λ n v read h.
           subst (λ (w : ℕ). Goes_on p u.id bounds n (vec_items c.push.new.self) l w) (some_same s.0.read here.read)
           (subst (λ (z : List ℕ). Goes_on p u.id bounds n z l s.0.value) (sym c.in-ok-push.ensures.items)
-          (one-back p u.id (unit_sound u) bounds table c.requires.walked n c.loop-left.at c.loop-left.left l (vec_items c.loop-left.lines) s (c.loop-left.invariant.1 n v read h))),
+          (one_back p u.id (unit_sound u) bounds table c.requires.walked n c.loop-left.at c.loop-left.left l (vec_items c.loop-left.lines) s (c.loop-left.invariant.1 n v read h))),
     )
 
 pub returns : goal.returns

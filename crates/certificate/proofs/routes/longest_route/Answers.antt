@@ -4,9 +4,9 @@ use Rattle.rules.specs.Route.{Steps}
 use Rattle.text.proofs.Shape.{formed_by_rules}
 use Rattle.walk.specs.UnitTexts.{program_of}
 use Rattle.walk.proofs.Givens.{unit_real}
-use Rattle.measures.proofs.Longest.{takes-at-most}
+use Rattle.measures.proofs.Longest.{takes_at_most}
 use Rattle.certificate.specs.Longest.{Longest}
-use Rattle.certificate.proofs.Counting.{steps-of-route}
+use Rattle.certificate.proofs.Counting.{steps_of_route}
 use Rattle.certificate.proofs.routes.longest_route.Goals as goal
 
 pub returns : goal.returns
@@ -20,4 +20,4 @@ returns c =
     let n = c.total-best.result in
     let back : lines ≡ reverse (vec_items c.reverse.new.self) = sym (ap reverse c.reverse.ensures.items ∙ reverse-reverse lines) in
     subst (Longest p u.id) back
-    (n, found.0, subst (Steps p lines) found.1 (steps-of-route p f u.id (unit_real u) bounds c.requires found.0), takes-at-most p f u.id (unit_real u) bounds c.requires n c.total-best.ensures)
+    (n, found.0, subst (Steps p lines) found.1 (steps_of_route p f u.id (unit_real u) bounds c.requires found.0), takes_at_most p f u.id (unit_real u) bounds c.requires n c.total-best.ensures)

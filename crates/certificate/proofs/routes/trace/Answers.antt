@@ -2,7 +2,7 @@ use Rattle.std.proofs.Common.{◌≡◌, ℕ, List, [], ◌∷◌, ◌++◌, IfO
 use Rattle.walk.specs.UnitTexts.{program_of}
 use Rattle.walk.proofs.Givens.{unit_sound}
 use Rattle.certificate.specs.Longest.{entry_of, Goes_on}
-use Rattle.certificate.proofs.Back.{stop-or-end, from_end, from-stop}
+use Rattle.certificate.proofs.Back.{stop_or_end, from_end, from_stop}
 use Rattle.certificate.proofs.routes.trace.Goals as goal
 
 made_then : {X Y : Type 0} {P Q : X → Type 0} (r : Result X Y) → ((x : X) → P x → Q x) → IfOk r P → IfOk r Q
@@ -25,7 +25,7 @@ returns-in-ok-push c =
     let l = c.in-Some.l in
     let s = c.in-Some.ensures in
     let items = c.in-ok-push.ensures.items ∙ ap (λ (z : List ℕ). z ++ l ∷ []) c.new-lines.ensures.items in
-    let from = subst (λ (z : List ℕ). Goes_on p u.id bounds n z l s.0.value) (sym items) (from-stop p u.id (unit_sound u) bounds table c.requires.walked n l s) in
+    let from = subst (λ (z : List ℕ). Goes_on p u.id bounds n z l s.0.value) (sym items) (from_stop p u.id (unit_sound u) bounds table c.requires.walked n l s) in
     made_then c.back.result (λ x h. h n s.0.value s.0.read from) c.back.ensures
 
 pub returns-in-None : goal.returns-in-None
@@ -36,7 +36,7 @@ returns-in-None c =
     let table = vec_items c.args.table.now in
     let n = c.args.n in
     let e = sym u.end_is in
-    let here = stop-or-end p u.id (unit_sound u) bounds table c.requires.walked n c.requires.best c.in-None.ensures in
+    let here = stop_or_end p u.id (unit_sound u) bounds table c.requires.walked n c.requires.best c.in-None.ensures in
     let read = subst (λ (m : ℕ). entry_of p u.id table m ≡ Some n) e here.read in
     let from = subst (λ (z : List ℕ). Goes_on p u.id bounds n z u.end n) (sym c.new-lines.ensures.items) (subst (λ (m : ℕ). Goes_on p u.id bounds n [] m n) e (from_end p u.id (unit_sound u) bounds table c.requires.walked n)) in
     made_then c.back-in-None.result (λ x h. h n n read from) c.back-in-None.ensures

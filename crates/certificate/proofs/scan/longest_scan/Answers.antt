@@ -5,7 +5,7 @@ use Rattle.rules.specs.Route.{Takes, Greatest}
 use Rattle.image.specs.Held.{meant}
 use Rattle.text.proofs.Shape.{shaped}
 use Rattle.theory.proofs.Text.{named}
-use Rattle.certificate.proofs.Scanning.{parts-greatest}
+use Rattle.certificate.proofs.Scanning.{parts_greatest}
 use Rattle.certificate.proofs.scan.longest_scan.Goals as goal
 
 pub route-of-requires-3 : goal.route-of-requires-3
@@ -34,6 +34,6 @@ returns c =
       block_takes = block.2;
       main_route = main.1;
       main_takes = main.2;
-      longest = parts-greatest p input.3 (which.most block.0 block.3) main.3;
+      longest = parts_greatest p input.3 (which.most block.0 block.3) main.3;
       each_mechanism = c.in-ok-mechanisms.ensures;
     }

@@ -8,4 +8,4 @@ pub longest-route-requires : goal.longest-route-requires
 longest-route-requires c = moved (λ p u. BoundsHold p u c.args.bounds.now) (sym c.real-unit-unit.ensures.0) (sym c.real-unit-unit.ensures.1) c.requires.bounded
 
 pub returns : goal.returns
-returns c = moved (λ p u. IfOk c.longest-route.result (λ v. Longest p u (reverse (vec_items v)))) c.real-unit-unit.ensures.0 c.real-unit-unit.ensures.1 c.longest-route.ensures
+returns c = moved (λ p u. IfOk c.longest_route.result (λ v. Longest p u (reverse (vec_items v)))) c.real-unit-unit.ensures.0 c.real-unit-unit.ensures.1 c.longest_route.ensures

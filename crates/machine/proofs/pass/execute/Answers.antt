@@ -9,8 +9,8 @@ use Rattle.lines.specs.Views.{registers_of, turn_of, HasRule}
 use Rattle.machine.specs.Views.{program_of, memory_of}
 use Rattle.machine.specs.Standing.{standing_at}
 use Rattle.verdict.proofs.Kept.{accepted}
-use Rattle.machine.proofs.Lookups.{line_read, effect-read}
-use Rattle.machine.proofs.Executions.{mechanism-inside, served, stepped}
+use Rattle.machine.proofs.Lookups.{line_read, effect_read}
+use Rattle.machine.proofs.Executions.{mechanism_inside, served, stepped}
 use Rattle.machine.proofs.pass.execute.Goals as goal
 
 pub step-turn-requires : goal.step-turn-requires
@@ -18,11 +18,11 @@ step-turn-requires c =
     let a = c.args.program.now in
     let l = c.args.line in
     let w = c.requires.own.within in
-    let same = effect-read a.formed l w (registers_of c.args.registers.now) (vec_items c.args.memory.now.bytes) c.as-mut-slice.result.now c.index-2.result.now c.index.result.now c.as-slice.result.now c.index-2.ensures c.index.ensures c.as-slice.ensures.value c.as-mut-slice.ensures.value in
+    let same = effect_read a.formed l w (registers_of c.args.registers.now) (vec_items c.args.memory.now.bytes) c.as-mut-slice.result.now c.index-2.result.now c.index.result.now c.as-slice.result.now c.index-2.ensures c.index.ensures c.as-slice.ensures.value c.as-mut-slice.ensures.value in
     record {
       rule = subst (λ (x : Option Done). HasRule x) (sym same) c.requires.rule;
       mechanism = subst (λ (x : Line). 22 ≤ x.code → x.operand < length c.as-slice.result.now) (sym (line_read a.formed l w c.index.result.now c.index.ensures))
-          (subst (λ (xs : List ℕ). 22 ≤ (line_at (program_of a) l).code → (line_at (program_of a) l).operand < length xs) (sym c.as-slice.ensures.value) (mechanism-inside (program_of a) (accepted a) l w));
+          (subst (λ (xs : List ℕ). 22 ≤ (line_at (program_of a) l).code → (line_at (program_of a) l).operand < length xs) (sym c.as-slice.ensures.value) (mechanism_inside (program_of a) (accepted a) l w));
     }
 
 pub take-turn-requires : goal.take-turn-requires
@@ -30,7 +30,7 @@ take-turn-requires c =
     let a = c.args.program.now in
     let l = c.args.line in
     let w = c.requires.own.within in
-    let same = effect-read a.formed l w (registers_of c.args.registers.now) (vec_items c.args.memory.now.bytes) c.as-mut-slice.result.now c.index-2.result.now c.index.result.now c.as-slice.result.now c.index-2.ensures c.index.ensures c.as-slice.ensures.value c.as-mut-slice.ensures.value in
+    let same = effect_read a.formed l w (registers_of c.args.registers.now) (vec_items c.args.memory.now.bytes) c.as-mut-slice.result.now c.index-2.result.now c.index.result.now c.as-slice.result.now c.index-2.ensures c.index.ensures c.as-slice.ensures.value c.as-mut-slice.ensures.value in
     let many : length (vec_items c.args.memory.now.points) ≡ length (vec_items a.formed.program.activation) = c.requires.points in
     record {
       unit = c.requires.real;
@@ -47,7 +47,7 @@ returns c =
     let r = registers_of c.args.registers.now in
     let m = memory_of c.args.memory.now in
     let bytes = c.step-turn.new.bytes in
-    let same = effect-read a.formed l w (registers_of c.args.registers.now) (vec_items c.args.memory.now.bytes) c.as-mut-slice.result.now c.index-2.result.now c.index.result.now c.as-slice.result.now c.index-2.ensures c.index.ensures c.as-slice.ensures.value c.as-mut-slice.ensures.value in
+    let same = effect_read a.formed l w (registers_of c.args.registers.now) (vec_items c.args.memory.now.bytes) c.as-mut-slice.result.now c.index-2.result.now c.index.result.now c.as-slice.result.now c.index-2.ensures c.index.ensures c.as-slice.ensures.value c.as-mut-slice.ensures.value in
     let kept : (with_items c.args.memory.now.bytes bytes).items ≡ bytes = with_items_is c.args.memory.now.bytes bytes (omega arith) in
     let done = c.take-turn.ensures ∙ ap (λ (xs : List ℕ). turned (program_of a) c.args.unit l (registers_of c.step-turn.new.registers) (with_bytes m xs) (turn_of c.step-turn.result)) kept in
     subst (λ (d : Config). Step (program_of a) (standing_at c.args.unit l r m) d) (sym done)

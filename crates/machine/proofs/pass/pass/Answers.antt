@@ -3,7 +3,7 @@ use Rattle.rules.specs.Image.{line_section}
 use Rattle.rules.specs.Run.{Runs, here}
 use Rattle.machine.specs.Views.{program_of, memory_of, config_of}
 use Rattle.text.proofs.Shape.{shaped}
-use Rattle.machine.proofs.Passing.{one_more, within-lines, at_line, passes, fitting-after, whole-after}
+use Rattle.machine.proofs.Passing.{one_more, within_lines, at_line, passes, fitting_after, whole_after}
 use Rattle.machine.proofs.pass.pass.Goals as goal
 
 pub loop-place-init : goal.loop-place-init
@@ -25,7 +25,7 @@ again c =
 -- it has no more steps than the program has lines
 within : (c : goal.After-execute-place) → c.loop-place.steps + 1 ≤ length (program_of c.args.program.now).lines
 within c =
-    within-lines c.args.program.now c.args.module c.requires.named (memory_of c.args.memory.now) c.requires.fitting
+    within_lines c.args.program.now c.args.module c.requires.named (memory_of c.args.memory.now) c.requires.fitting
     (config_of c.enter-unit-place.result c.enter-unit-place.new.registers c.enter-unit-place.new.memory) c.enter-unit-place.ensures
     (c.loop-place.steps + 1) (config_of c.execute-place.result c.execute-place.new.registers c.execute-place.new.memory) (again c)
 
@@ -47,14 +47,14 @@ returns-in-Over c =
       passes = passes c.args.program.now c.args.module c.requires.named (memory_of c.args.memory.now) c.requires.fitting
           (config_of c.enter-unit-place.result c.enter-unit-place.new.registers c.enter-unit-place.new.memory) c.enter-unit-place.ensures
           c.loop-place.steps c.loop-place.place c.in-Over.whole c.loop-place.registers c.loop-place.memory c.in-Over.is c.loop-place.invariant;
-      fitting = fitting-after c.args.program.now c.args.module c.requires.named (memory_of c.args.memory.now) c.requires.fitting
+      fitting = fitting_after c.args.program.now c.args.module c.requires.named (memory_of c.args.memory.now) c.requires.fitting
           (config_of c.enter-unit-place.result c.enter-unit-place.new.registers c.enter-unit-place.new.memory) c.enter-unit-place.ensures
           c.loop-place.steps c.loop-place.place c.in-Over.whole c.loop-place.registers c.loop-place.memory c.in-Over.is c.loop-place.invariant;
-      bounded = (let n = within-lines c.args.program.now c.args.module c.requires.named (memory_of c.args.memory.now) c.requires.fitting
+      bounded = (let n = within_lines c.args.program.now c.args.module c.requires.named (memory_of c.args.memory.now) c.requires.fitting
           (config_of c.enter-unit-place.result c.enter-unit-place.new.registers c.enter-unit-place.new.memory) c.enter-unit-place.ensures
           c.loop-place.steps (config_of c.loop-place.place c.loop-place.registers c.loop-place.memory) c.loop-place.invariant in
           omega (arith, n, c.args.program.now.formed.program.lines.ok.0));
-      whole = whole-after c.args.program.now c.args.module c.requires.named (memory_of c.args.memory.now) c.requires.fitting
+      whole = whole_after c.args.program.now c.args.module c.requires.named (memory_of c.args.memory.now) c.requires.fitting
           (config_of c.enter-unit-place.result c.enter-unit-place.new.registers c.enter-unit-place.new.memory) c.enter-unit-place.ensures
           c.loop-place.steps c.loop-place.place c.in-Over.whole c.loop-place.registers c.loop-place.memory c.in-Over.is c.loop-place.invariant;
     }

@@ -4,7 +4,7 @@ use Rattle.rules.specs.Image.{mechanism_section}
 use Rattle.walk.specs.UnitTexts.{program_of}
 use Rattle.text.proofs.Shape.{formed_by_rules}
 use Rattle.walk.proofs.Givens.{unit_sound, read_at_end}
-use Rattle.walk.proofs.Totals.{some_end, entry-joins}
+use Rattle.walk.proofs.Totals.{some_end, entry_joins}
 use Rattle.measures.specs.Models.{set_of, set_after}
 use Rattle.measures.proofs.Sets.{by_all}
 use Rattle.measures.proofs.survey.initialised_by_all.Goals as goal
@@ -32,4 +32,4 @@ returns c =
     let walked = c.in-ok-table.ensures in
     let room : u.end - u.first < length t = omega (arith, (unit_sound u).order, u.first_is, u.end_is, walked.long) in
     by_all p u.id ((formed_by_rules u.formed.now).shaped.counts mechanism_section).1 c.in-Some.set
-    (entry-joins p u.id (unit_sound u) (set_of 0) set_after t walked (end p u.id) c.in-Some.set (unit_sound u).order (read_at_end u t _ room c.index.ensures ∙ c.in-Some.is))
+    (entry_joins p u.id (unit_sound u) (set_of 0) set_after t walked (end p u.id) c.in-Some.set (unit_sound u).order (read_at_end u t _ room c.index.ensures ∙ c.in-Some.is))

@@ -3,7 +3,7 @@ use Rattle.rules.specs.Run.{Memory}
 use Rattle.machine.specs.Views.{program_of, memory_of}
 use Rattle.theory.specs.Standing.{Fitting}
 use Rattle.theory.proofs.Ruled.{formed}
-use Rattle.theory.proofs.Sessions.{inputs-fit}
+use Rattle.theory.proofs.Sessions.{inputs_fit}
 use Rattle.verdict.proofs.Kept.{accepted}
 use Rattle.session.proofs.Fits.{room}
 use Rattle.session.proofs.Passed.{scanned}
@@ -18,7 +18,7 @@ pass-input-requires g c =
     let eight = (g.met.C.Cabinet.lawful.eight_inputs c.args.cabinet.now).eight in
     record {
       named = lit< tt;
-      fitting = subst (λ (m : Memory). Fitting p m) (sym c.take-inputs.ensures) (inputs-fit p (formed p (accepted c.args.program.now)) (memory_of c.args.memory.now) (g.C.Cabinet.meaning.inputs c.args.cabinet.now) eight c.requires);
+      fitting = subst (λ (m : Memory). Fitting p m) (sym c.take-inputs.ensures) (inputs_fit p (formed p (accepted c.args.program.now)) (memory_of c.args.memory.now) (g.C.Cabinet.meaning.inputs c.args.cabinet.now) eight c.requires);
     }
 
 pub returns : goal.returns

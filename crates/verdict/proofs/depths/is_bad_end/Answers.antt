@@ -5,7 +5,7 @@ use Rattle.walk.specs.UnitTexts.{program_of}
 use Rattle.walk.proofs.Givens.{unit_sound}
 use Rattle.verdict.specs.Depths.{Misfits}
 use Rattle.verdict.proofs.Entries.{in_order, room, range, no_entry}
-use Rattle.verdict.proofs.Ranges.{same_depth, bad-from, bad-to, level-end, low_end, high_end}
+use Rattle.verdict.proofs.Ranges.{same_depth, bad_from, bad_to, level_end, low_end, high_end}
 use Rattle.verdict.proofs.depths.is_bad_end.Goals as goal
 
 not_true : (b : Bool) → not b ≡ true → b ≡ false
@@ -30,7 +30,7 @@ returns-then-low-ne0 c =
     let d = range u t c.requires u.end (in_order u t c.requires) (omega arith) c.index.result.now (c.in-Some.field-0-0, (c.in-Some.low, c.in-Some.high)) c.index.ensures c.in-Some.is in
     let e = u.end_is in
     let m = low_end (program_of u) u.id (unit_sound u) c.in-Some.low c.in-Some.high (λ z. omega (arith, ints)) in
-    (λ h. bad-from (program_of u) u.id u.end c.in-Some.low c.in-Some.high d (subst (λ (l : ℕ). Misfits (program_of u) u.id l c.in-Some.low c.in-Some.high) (sym e) m), λ b. search rules)
+    (λ h. bad_from (program_of u) u.id u.end c.in-Some.low c.in-Some.high d (subst (λ (l : ℕ). Misfits (program_of u) u.id l c.in-Some.low c.in-Some.high) (sym e) m), λ b. search rules)
 
 pub returns-else-low-ne0 : goal.returns-else-low-ne0
 returns-else-low-ne0 c =
@@ -42,10 +42,10 @@ returns-else-low-ne0 c =
     elim (same_depth c.in-Some.high (pos 0)) [
       | inl z ↦ (
         λ h. absurd (let f : eqb (of_z w32 c.in-Some.high) 0 ≡ true = ap (λ (x : ℤ). eqb (of_z w32 x) 0) z in both_ways (eqb (of_z w32 c.in-Some.high) 0) (not_true (eqb (of_z w32 c.in-Some.high) 0) h) f),
-        λ b. absurd (level-end (program_of u) u.id (unit_sound u) c.in-Some.low c.in-Some.high zero z (subst (λ (l : ℕ). Misfits (program_of u) u.id l c.in-Some.low c.in-Some.high) e (bad-to (program_of u) u.id u.end c.in-Some.low c.in-Some.high d b))),
+        λ b. absurd (level_end (program_of u) u.id (unit_sound u) c.in-Some.low c.in-Some.high zero z (subst (λ (l : ℕ). Misfits (program_of u) u.id l c.in-Some.low c.in-Some.high) e (bad_to (program_of u) u.id u.end c.in-Some.low c.in-Some.high d b))),
       )
       | inr n ↦ (
-        λ h. bad-from (program_of u) u.id u.end c.in-Some.low c.in-Some.high d (subst (λ (l : ℕ). Misfits (program_of u) u.id l c.in-Some.low c.in-Some.high) (sym e) (high_end (program_of u) u.id (unit_sound u) c.in-Some.low c.in-Some.high n)),
+        λ h. bad_from (program_of u) u.id u.end c.in-Some.low c.in-Some.high d (subst (λ (l : ℕ). Misfits (program_of u) u.id l c.in-Some.low c.in-Some.high) (sym e) (high_end (program_of u) u.id (unit_sound u) c.in-Some.low c.in-Some.high n)),
         λ b. search rules,
       )
     ]

@@ -9,7 +9,7 @@ use Rattle.rules.specs.Program.{Own, line_at, end, flag_at, pushes, pops}
 use Rattle.walk.specs.UnitTexts.{program_of}
 use Rattle.walk.specs.declared.unit_text.UnitText.{UnitText}
 use Rattle.walk.proofs.Givens.{unit_sound}
-use Rattle.verdict.proofs.Balance.{popped-at-none, pop-misfits, bare-misfits, pushed-at-eight, push-misfits}
+use Rattle.verdict.proofs.Balance.{popped_at_none, pop_misfits, bare_misfits, pushed_at_eight, push_misfits}
 use Rattle.verdict.proofs.depths.misfits.Goals as goal
 
 -- an own line is below the unit's end
@@ -35,7 +35,7 @@ returns-then-low-eq0 c =
     let same : c.args.depths.0 ≡ c.args.depths.1 = omega (arith, ints) in
     let zero : c.args.depths.0 ≡ pos 0 = omega (arith, ints) in
     let told : c.takes-a-cell.result ≡ pops p l = c.takes-a-cell.ensures ∙ ap (λ (x : Line). eqb x.mode 2 && (is LA x || is LO x || is LX x)) c.line-of-line.ensures in
-    (λ h. pop-misfits p u.id l c.requires (below u l c.requires) _ _ same zero (sym told ∙ h), λ m. told ∙ popped-at-none p u.id l c.requires (below u l c.requires) _ _ same zero m)
+    (λ h. pop_misfits p u.id l c.requires (below u l c.requires) _ _ same zero (sym told ∙ h), λ m. told ∙ popped_at_none p u.id l c.requires (below u l c.requires) _ _ same zero m)
 
 pub returns-then-wants-no-cell : goal.returns-then-wants-no-cell
 returns-then-wants-no-cell c =
@@ -43,7 +43,7 @@ returns-then-wants-no-cell c =
     let p = program_of u in
     let l = c.args.l in
     let same : c.args.depths.0 ≡ c.args.depths.1 = omega (arith, ints) in
-    (λ h. bare-misfits p u.id l c.requires (below u l c.requires) _ _ same (λ e. omega (arith, ints)) (ap (λ (x : Line). is_exit x || (is_begin x || is_end x)) (sym c.line-of-line.ensures) ∙ sym c.if-wants-no-cell.ensures), λ m. refl)
+    (λ h. bare_misfits p u.id l c.requires (below u l c.requires) _ _ same (λ e. omega (arith, ints)) (ap (λ (x : Line). is_exit x || (is_begin x || is_end x)) (sym c.line-of-line.ensures) ∙ sym c.if-wants-no-cell.ensures), λ m. refl)
 
 pub returns-then-low-ne8 : goal.returns-then-low-ne8
 returns-then-low-ne8 c =
@@ -52,7 +52,7 @@ returns-then-low-ne8 c =
     let l = c.args.l in
     let same : c.args.depths.0 ≡ c.args.depths.1 = omega (arith, ints) in
     let free = ap (λ (x : Line). is_exit x || (is_begin x || is_end x)) (sym c.line-of-line.ensures) ∙ sym c.if-wants-no-cell.ensures in
-    (λ h. absurd (both_ways false refl h), λ m. absurd (let e = (pushed-at-eight p u.id l c.requires (below u l c.requires) _ _ same (λ e. omega (arith, ints)) free m).1 in omega (arith, ints)))
+    (λ h. absurd (both_ways false refl h), λ m. absurd (let e = (pushed_at_eight p u.id l c.requires (below u l c.requires) _ _ same (λ e. omega (arith, ints)) free m).1 in omega (arith, ints)))
 
 pub returns : goal.returns
 returns c =
@@ -64,4 +64,4 @@ returns c =
     let free = ap (λ (x : Line). is_exit x || (is_begin x || is_end x)) (sym c.line-of-line.ensures) ∙ sym c.if-wants-no-cell.ensures in
     let flag = flag_read u l _ c.requires c.index.ensures in
     let told : c.puts-a-cell.result ≡ pushes p l = c.puts-a-cell.ensures ∙ ap (λ (x : Line). is LDR x && c.index.result.now) c.line-of-line.ensures ∙ ap (λ (b : Bool). is LDR (line_at p l) && b) flag in
-    (λ h. push-misfits p u.id l c.requires (below u l c.requires) _ _ same eight (sym told ∙ h), λ m. told ∙ (pushed-at-eight p u.id l c.requires (below u l c.requires) _ _ same (λ e. omega (arith, ints)) free m).0)
+    (λ h. push_misfits p u.id l c.requires (below u l c.requires) _ _ same eight (sym told ∙ h), λ m. told ∙ (pushed_at_eight p u.id l c.requires (below u l c.requires) _ _ same (λ e. omega (arith, ints)) free m).0)

@@ -2,7 +2,7 @@ use Rattle.std.proofs.Common.{sym, ◌∙◌, subst}
 use Rattle.rules.specs.Program.{Program}
 use Rattle.rules.specs.Verdict.{Breaks}
 use Rattle.theory.proofs.Null.{null_accepted}
-use Rattle.verdict.proofs.NullTables.{same_null, null-unbroken, null-starts, null-begins, null-ends, null-flags, null-units}
+use Rattle.verdict.proofs.NullTables.{same_null, null_unbroken, null_starts, null_begins, null_ends, null_flags, null_units}
 use Rattle.verdict.proofs.null.null_program.Goals as goal
 
 pub invariant-of-formed : goal.invariant-of-formed
@@ -11,24 +11,24 @@ invariant-of-formed c =
     let starts = c.in-ok-starts.ensures in
     let no_mechanism = c.new.ensures.len in
     let no_line = c.new-2.ensures.len in (
-      null-unbroken _ e,
+      null_unbroken _ e,
       (
         starts.len,
         (
-          null-starts _ e _ starts.items,
+          null_starts _ e _ starts.items,
           (
             c.new-3.ensures.len ∙ sym no_mechanism,
             (
-              null-begins _ e _,
+              null_begins _ e _,
               (
                 c.new-4.ensures.len ∙ sym no_mechanism,
                 (
-                  null-ends _ e _,
+                  null_ends _ e _,
                   (
                     c.new-5.ensures.len ∙ sym no_line,
                     (
-                      null-flags _ e _,
-                      (c.new-6.ensures.len ∙ sym no_line, (null-units _ e _, tt)),
+                      null_flags _ e _,
+                      (c.new-6.ensures.len ∙ sym no_line, (null_units _ e _, tt)),
                     ),
                   ),
                 ),

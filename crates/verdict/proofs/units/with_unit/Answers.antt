@@ -9,7 +9,7 @@ use Rattle.walk.specs.declared.unit_text.UnitText.{UnitText}
 use Rattle.walk.proofs.Givens.{unit_real}
 use Rattle.verdict.specs.Depths.{IsBadIn}
 use Rattle.verdict.specs.Units.{nth_unit, earliest, IsBadAmong}
-use Rattle.verdict.proofs.Firsts.{with_unit, without-unit}
+use Rattle.verdict.proofs.Firsts.{with_unit, without_unit}
 use Rattle.verdict.proofs.units.with_unit.Goals as goal
 
 -- the first bad place of the unit, over the program that was handed in
@@ -19,7 +19,7 @@ taken u f i v a b r e q n k x y =
     (with_unit (meant f.program) i u.id (q ∙ n) (subst (λ (g : Formed). Real (meant g.program) u.id) e (unit_real u)) a b x (subst (λ (g : Formed). Finds (IsBadIn (meant g.program) u.id) b) e y))
 
 pub returns-in-default : goal.returns-in-default
-returns-in-default c = without-unit (meant c.args.formed.now.program) c.args.i c.unit-at.result c.unit-at.ensures c.in-default.ensures c.args.first c.requires
+returns-in-default c = without_unit (meant c.args.formed.now.program) c.args.i c.unit-at.result c.unit-at.ensures c.in-default.ensures c.args.first c.requires
 
 pub returns : goal.returns
 returns c = taken c.in-Some.unit c.args.formed.now c.args.i c.unit-at.result c.args.first c.in-ok-found.found c.earlier.result c.in-Some.ensures.0 c.in-Some.ensures.1 c.unit-at.ensures c.earlier.ensures c.requires c.in-ok-found.ensures

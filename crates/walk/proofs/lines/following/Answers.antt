@@ -5,7 +5,7 @@ use Rattle.rules.specs.Op.{is_begin}
 use Rattle.rules.specs.Program.{Own, line_at, end_line}
 use Rattle.walk.specs.declared.unit_text.UnitText.{UnitText}
 use Rattle.walk.specs.UnitTexts.{program_of}
-use Rattle.walk.proofs.Givens.{unit_sound, end_read, span-few}
+use Rattle.walk.proofs.Givens.{unit_sound, end_read, span_few}
 use Rattle.walk.proofs.lines.following.Goals as goal
 
 begins : (u : UnitText) (l : ℕ) (x : Line) → x ≡ line_at (program_of u) l → x.code ≡ 22 → is_begin (line_at (program_of u) l) ≡ true
@@ -27,7 +27,7 @@ overflow-add-result c =
     let u = c.args.unit.now in
     let f = u.formed.now in
     let h = real u c.args.l c.args.line c.requires.own c.requires.read c.if-line-eq22.true in
-    omega (arith, end_read f c.args.line.operand h _ c.index.ensures, span-few f c.args.line.operand h)
+    omega (arith, end_read f c.args.line.operand h _ c.index.ensures, span_few f c.args.line.operand h)
 
 pub returns-then-line-eq22 : goal.returns-then-line-eq22
 returns-then-line-eq22 c =

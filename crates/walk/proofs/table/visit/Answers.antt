@@ -10,7 +10,7 @@ use Rattle.walk.proofs.Codes.{jump_coded, not_jump_coded, exit_coded, not_exit_c
 use Rattle.walk.proofs.Sound.{place_low, place_high}
 use Rattle.walk.proofs.Givens.{unit_sound, read_at}
 use Rattle.walk.proofs.Covering.{put_same}
-use Rattle.walk.proofs.Walking.{passing, some-own, goes_on, jumping, ending, pausing}
+use Rattle.walk.proofs.Walking.{passing, some_own, goes_on, jumping, ending, pausing}
 use Rattle.walk.proofs.table.visit.Given.{Over}
 use Rattle.walk.proofs.table.visit.Goals as goal
 use Rattle.walk.proofs.table.visit.Goals.{In-Some, in-default-code-via-then-line-lt9, in-default-code-via-else-line-lt9+else-line-lt11+else-line-lt14}
@@ -26,7 +26,7 @@ own : (g : Over) (c : In-Some g) → Own (program_of c.args.unit.now) c.args.uni
 own g c =
     let m = g.M.Measure in
     let u = c.args.unit.now in
-    some-own (program_of u) u.id (unit_sound u) m.begins (m.effect c.args.measure.now) c.args.i (omega (arith, c.requires.low, u.first_is)) (omega (arith, c.requires.within, u.end_is)) _ c.requires.staged c.in-Some.v (read g c)
+    some_own (program_of u) u.id (unit_sound u) m.begins (m.effect c.args.measure.now) c.args.i (omega (arith, c.requires.low, u.first_is)) (omega (arith, c.requires.within, u.end_is)) _ c.requires.staged c.in-Some.v (read g c)
 
 pub returns-in-default : goal.returns-in-default
 returns-in-default g c =

@@ -1,5 +1,5 @@
 use Rattle.std.proofs.Common.{◌+◌, ◌<◌, vec_len, arith}
-use Rattle.walk.proofs.Givens.{start_read, begin-read, end_read, span-few}
+use Rattle.walk.proofs.Givens.{start_read, begin_read, end_read, span_few}
 use Rattle.walk.proofs.units.unit_text.Goals as goal
 
 pub overflow-add-first : goal.overflow-add-first
@@ -7,14 +7,14 @@ overflow-add-first c =
     let f = c.args.formed.now in
     let k = c.in-Mechanism.k in
     let h : k < vec_len f.program.activation = omega (arith, c.if-k-len.false, c.len-in-Mechanism.ensures) in
-    omega (arith, begin-read f k h _ c.index.ensures, span-few f k h)
+    omega (arith, begin_read f k h _ c.index.ensures, span_few f k h)
 
 pub overflow-add-end : goal.overflow-add-end
 overflow-add-end c =
     let f = c.args.formed.now in
     let k = c.in-Mechanism.k in
     let h : k < vec_len f.program.activation = omega (arith, c.if-k-len.false, c.len-in-Mechanism.ensures) in
-    omega (arith, end_read f k h _ c.index-in-Mechanism.ensures, span-few f k h)
+    omega (arith, end_read f k h _ c.index-in-Mechanism.ensures, span_few f k h)
 
 pub invariant-of-result : goal.invariant-of-result
 invariant-of-result c =

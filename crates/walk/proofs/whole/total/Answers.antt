@@ -4,7 +4,7 @@ use Rattle.walk.specs.Joins.{JoinOf}
 use Rattle.walk.specs.Stages.{Stopped}
 use Rattle.walk.specs.UnitTexts.{program_of}
 use Rattle.walk.proofs.Givens.{unit_sound, read_at_end}
-use Rattle.walk.proofs.Totals.{some_end, from_end, in-total}
+use Rattle.walk.proofs.Totals.{some_end, from_end, in_total}
 use Rattle.walk.proofs.whole.total.Goals as goal
 
 pub overflow-sub-unit : goal.overflow-sub-unit
@@ -40,5 +40,5 @@ returns g c =
     let p = program_of u in
     let e = m.effect c.args.measure.now in
     let last : c.loop-i.i ≡ end p u.id = omega (arith, c.loop-i.auto.i-end (omega (arith, (unit_sound u).order, u.first_is, u.end_is)), u.end_is) in
-    in-total p u.id (unit_sound u) m.begins e _ c.requires _
+    in_total p u.id (unit_sound u) m.begins e _ c.requires _
     (subst (λ (n : ℕ). JoinOf m.joined (Stopped m.begins e p u.id n) c.loop-i.best) last c.loop-i.invariant)

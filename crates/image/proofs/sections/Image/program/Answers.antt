@@ -1,6 +1,6 @@
 use Rattle.std.proofs.Common.{◌≡◌, length, vec_items, ap, ◌∙◌}
 use Rattle.rules.specs.Image.{data_section, mechanism_section, module_section, line_section, program_of}
-use Rattle.image.proofs.Contents.{initial_is, activation_is, lengths_are, lines_are, in-range, bits_inside, all_lines}
+use Rattle.image.proofs.Contents.{initial_is, activation_is, lengths_are, lines_are, in_range, bits_inside, all_lines}
 use Rattle.image.proofs.sections.Image.program.Goals as goal
 use Rattle.image.proofs.sections.Image.program.Goals.{In_ok-lines}
 
@@ -24,13 +24,13 @@ invariant_of-result c =
     let sound = c.requires.sound in
     let d = c.in_ok-initial.initial.ok.0 ∙ ap length (initial at) in
     let n = c.in_ok-lines.lines.ok.0 ∙ ap length (lines at) in (
-      in-range image sound data_section _ d,
+      in_range image sound data_section _ d,
       (
-        in-range image sound mechanism_section _ (c.in_ok-activation.activation.ok.0 ∙ ap length (activation at)),
+        in_range image sound mechanism_section _ (c.in_ok-activation.activation.ok.0 ∙ ap length (activation at)),
         (
-          in-range image sound module_section _ (c.in_ok-lengths.lengths.ok.0 ∙ ap length (lengths at)),
+          in_range image sound module_section _ (c.in_ok-lengths.lengths.ok.0 ∙ ap length (lengths at)),
           (
-            in-range image sound line_section _ n,
+            in_range image sound line_section _ n,
             (c.in_ok-initial.ensures.1, (bits_inside image sound _ _ (activation at) d, (all_lines image sound _ _ (lengths at) n, tt))),
           ),
         ),

@@ -1,8 +1,8 @@
 use Rattle.std.proofs.Common.{◌≡◌, sym, refl, ◌∙◌, arith}
 use Rattle.rules.specs.Session.{Machine}
 use Rattle.machine.specs.Views.{memory_of}
-use Rattle.session.specs.States.{machine-in}
-use Rattle.session.proofs.Conducting.{begun, more, unhalted-calls, halted-calls, halted-session, left-session, guaranteed, throughout}
+use Rattle.session.specs.States.{machine_in}
+use Rattle.session.proofs.Conducting.{begun, more, unhalted_calls, halted_calls, halted_session, left_session, guaranteed, throughout}
 use Rattle.session.proofs.conduct.conducting.conduct.Goals as goal
 
 pub loop-call-init : goal.loop-call-init
@@ -20,10 +20,10 @@ returns-then-halts g c =
     let law = g.met.C.Cabinet.lawful in
     let i = c.loop-call.invariant.2 c.args.cabinet c.in-Ok-start.ensures in
     let v = c.in-Ok.ensures in
-    let s = halted-session _ _ _ _ c.loop-call.call-index _ _ _ c.halt-halted.result c.push-reserved-then-halts.ensures.items i c.halt-halted.ensures in
+    let s = halted_session _ _ _ _ c.loop-call.call-index _ _ _ c.halt-halted.result c.push-reserved-then-halts.ensures.items i c.halt-halted.ensures in
     record {
       certified = v.0;
-      calls_are = halted-calls _ _ _ _ c.loop-call.call-index _ _ _ _ _ c.loop-call-test.false c.if-halts.true c.push-reserved-then-halts.ensures.items i;
+      calls_are = halted_calls _ _ _ _ c.loop-call.call-index _ _ _ _ _ c.loop-call-test.false c.if-halts.true c.push-reserved-then-halts.ensures.items i;
       session = s;
       throughout = λ k. throughout _ law c.args.program.now _ _ _ _ v.0 k _ _ _ s;
       guaranteed = guaranteed _ law c.args.program.now c.args.cabinet _ _ _ v.0;
@@ -35,10 +35,10 @@ returns g c =
     let i = c.loop-call.invariant.2 c.args.cabinet c.in-Ok-start.ensures in
     let v = c.in-Ok.ensures in
     let e = c.into-parts-cabinet.ensures in
-    let s = left-session _ _ _ _ c.loop-call.call-index _ _ (record { memory = memory_of c.into-parts-cabinet.result.1; phase = c.into-parts-cabinet.result.2 }) c.into-parts-cabinet.result.0 (λ k. record { memory = memory_of (e.1 k); phase = e.2 k }) e.0 i in
+    let s = left_session _ _ _ _ c.loop-call.call-index _ _ (record { memory = memory_of c.into-parts-cabinet.result.1; phase = c.into-parts-cabinet.result.2 }) c.into-parts-cabinet.result.0 (λ k. record { memory = memory_of (e.1 k); phase = e.2 k }) e.0 i in
     record {
       certified = v.0;
-      calls_are = unhalted-calls _ _ _ _ c.loop-call.call-index _ _ _ c.loop-call-test.false c.if-halts.false i;
+      calls_are = unhalted_calls _ _ _ _ c.loop-call.call-index _ _ _ c.loop-call-test.false c.if-halts.false i;
       session = s;
       throughout = λ k. throughout _ law c.args.program.now _ _ _ _ v.0 k _ _ _ s;
       guaranteed = guaranteed _ law c.args.program.now c.args.cabinet _ _ _ v.0;

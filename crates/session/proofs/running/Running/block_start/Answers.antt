@@ -3,7 +3,7 @@ use Rattle.rules.specs.Session.{starts_block, no_block}
 use Rattle.session.proofs.running.Running.block_start.Goals as goal
 
 pub returns-in-Idle : goal.returns-in-Idle
-returns-in-Idle g c = record { same-program = refl; comes = starts_block c.in-Idle.is refl; cabinet-after = refl }
+returns-in-Idle g c = record { same_program = refl; comes = starts_block c.in-Idle.is refl; cabinet_after = refl }
 
 pub returns-in-default : goal.returns-in-default
-returns-in-default g c = (record { same-program = refl; comes = no_block c.in-default.not-Idle; cabinet-after = refl }, refl)
+returns-in-default g c = (record { same_program = refl; comes = no_block c.in-default.not-Idle; cabinet_after = refl }, refl)

@@ -20,7 +20,7 @@ invariant-of-self g c =
 
 pub returns : goal.returns
 returns g c = record {
-  same-program = refl;
+  same_program = refl;
   comes = clears (record { steps = c.pass.result.steps; cleared_memory = memory_of c.pass.new.memory; clear_pass = to_end (c.pass.ensures.whole refl) c.pass.ensures.passes; memory_is = c.return-block-points.ensures; phase_zero = refl });
-  cabinet-after = c.send-outputs.ensures;
+  cabinet_after = c.send-outputs.ensures;
 }

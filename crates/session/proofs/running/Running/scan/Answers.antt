@@ -7,4 +7,4 @@ pub scan-memory-answer-requires : goal.scan-memory-answer-requires
 scan-memory-answer-requires g c = let r = c.args.self.now in fits r.program.now r.memory r.bytes_fit r.points_fit r.pointed
 
 pub returns : goal.returns
-returns g c = record { same-program = refl; comes = scans c.scan-memory-answer.ensures.scans; cabinet-after = (c.send-outputs.new.cabinet, c.send-outputs.ensures, c.advance.ensures) }
+returns g c = record { same_program = refl; comes = scans c.scan-memory-answer.ensures.scans; cabinet_after = (c.send-outputs.new.cabinet, c.send-outputs.ensures, c.advance.ensures) }

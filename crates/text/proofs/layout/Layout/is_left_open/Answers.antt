@@ -4,9 +4,9 @@ use Rattle.std.proofs.lemmas.List.{get_or_read}
 use Rattle.rules.specs.Op.{is_begin, is_end}
 use Rattle.rules.specs.Program.{no_line, line_at, main_module, module_first, module_end}
 use Rattle.image.specs.Held.{meant}
-use Rattle.theory.proofs.Text.{first-end, end-within}
+use Rattle.theory.proofs.Text.{first_end, end_within}
 use Rattle.text.proofs.Shape.{shaped}
-use Rattle.text.proofs.LeftOver.{OpenEnd, open-by-begin, shut-by-end, open-by-unit}
+use Rattle.text.proofs.LeftOver.{OpenEnd, open_by_begin, shut_by_end, open_by_unit}
 use Rattle.text.proofs.layout.Layout.is_left_open.Goals as goal
 use Rattle.text.proofs.layout.Layout.is_left_open.Goals.{After-index-last}
 
@@ -16,7 +16,7 @@ module _ (c : After-index-last) where
   from =
       let a = c.start-of-first.ensures in
       let b = c.start-of-end.ensures in
-      let e = first-end (meant c.args.self.now.program) main_module in
+      let e = first_end (meant c.args.self.now.program) main_module in
       let d = c.if-first-end.false in
       omega arith
 
@@ -24,25 +24,25 @@ module _ (c : After-index-last) where
   last =
       let a = c.start-of-first.ensures in
       let b = c.start-of-end.ensures in
-      let e = first-end (meant c.args.self.now.program) main_module in
+      let e = first_end (meant c.args.self.now.program) main_module in
       let d = c.if-first-end.false in
       omega arith
 
   there : c.index-last.result.now ≡ line_at (meant c.args.self.now.program) (c.start-of-end.result - 1)
   there =
-      let e = end-within (meant c.args.self.now.program) main_module (shaped c.args.self.now.program).all_lines in
+      let e = end_within (meant c.args.self.now.program) main_module (shaped c.args.self.now.program).all_lines in
       let b = last in
       get_or_read (vec_items c.args.self.now.program.lines) (c.start-of-end.result - 1) c.index-last.result.now (omega arith) c.index-last.ensures no_line
 
 pub returns-then-last-eq-MECH-BEGIN : goal.returns-then-last-eq-MECH-BEGIN
 returns-then-last-eq-MECH-BEGIN c =
     let d = (goal.at.returns-then-last-eq-MECH-BEGIN c).After-index-last in
-    open-by-begin (meant c.args.self.now.program) (shaped c.args.self.now.program) (c.start-of-end.result - 1) (from d) (last d) (ap is_begin (sym (there d)) ∙ eq-eqb c.index-last.result.now.code 22 c.if-last-eq-MECH-BEGIN.true)
+    open_by_begin (meant c.args.self.now.program) (shaped c.args.self.now.program) (c.start-of-end.result - 1) (from d) (last d) (ap is_begin (sym (there d)) ∙ eq-eqb c.index-last.result.now.code 22 c.if-last-eq-MECH-BEGIN.true)
 
 pub returns-then-last-ne-MECH-END : goal.returns-then-last-ne-MECH-END
 returns-then-last-ne-MECH-END c =
     let d = (goal.at.returns-then-last-ne-MECH-END c).After-index-last in
-    open-by-unit (meant c.args.self.now.program) (shaped c.args.self.now.program) (c.start-of-end.result - 1) (from d) (last d) c.owns.result c.owns.ensures
+    open_by_unit (meant c.args.self.now.program) (shaped c.args.self.now.program) (c.start-of-end.result - 1) (from d) (last d) c.owns.result c.owns.ensures
     (ap is_begin (sym (there d)) ∙ ne_eqb c.index-last.result.now.code 22 c.if-last-eq-MECH-BEGIN.false) (ap is_end (sym (there d)) ∙ ne_eqb c.index-last.result.now.code 23 c.if-last-ne-MECH-END.true)
 
 pub returns-else-last-ne-MECH-END : goal.returns-else-last-ne-MECH-END
@@ -50,4 +50,4 @@ returns-else-last-ne-MECH-END c =
     let d = (goal.at.returns-else-last-ne-MECH-END c).After-index-last in
     let e = eq-eqb c.index-last.result.now.code 23 c.if-last-ne-MECH-END.false in
     subst (λ (b : Bool). Decides (not b) (OpenEnd (meant c.args.self.now.program))) (sym e)
-    (shut-by-end (meant c.args.self.now.program) (shaped c.args.self.now.program) (c.start-of-end.result - 1) (from d) (last d) (ap is_end (sym (there d)) ∙ e))
+    (shut_by_end (meant c.args.self.now.program) (shaped c.args.self.now.program) (c.start-of-end.result - 1) (from d) (last d) (ap is_end (sym (there d)) ∙ e))

@@ -4,7 +4,7 @@ use Rattle.std.proofs.lemmas.List.{get_or_read}
 use Rattle.rules.specs.Op.{is_begin}
 use Rattle.rules.specs.Program.{no_line, line_at, begin_line}
 use Rattle.image.specs.Held.{meant}
-use Rattle.text.proofs.Pairing.{bad-begin-again, good-begin}
+use Rattle.text.proofs.Pairing.{bad_begin_again, good_begin}
 use Rattle.text.proofs.layout.Layout.is_unpaired.Goals as goal
 use Rattle.text.proofs.layout.Layout.is_unpaired.Goals.{In-22}
 
@@ -43,6 +43,6 @@ returns-else-not-owns c =
     let e = s.begins_count in
     let b = below d in
     let first : c.index.result.now ≡ begin_line p (line_at p l).operand = get_or_read (vec_items s.begins) c.from-k.result c.index.result.now (omega arith) c.index.ensures 0 ∙ s.begins_are c.from-k.result (omega arith) ∙ ap (begin_line p) (number d) in (
-      (λ t. bad-begin-again p l (inside d) (begins d) (let u = ltb-true c.index.result.now l t in omega arith)),
-      (λ u. elim (cases_lt c.index.result.now l) [ inl h ↦ lt-ltb c.index.result.now l h | inr h ↦ absurd (good-begin p l (inside d) (begins d) (c.owns.ensures.0 c.if-not-owns.false) (omega arith) u) ]),
+      (λ t. bad_begin_again p l (inside d) (begins d) (let u = ltb-true c.index.result.now l t in omega arith)),
+      (λ u. elim (cases_lt c.index.result.now l) [ inl h ↦ lt-ltb c.index.result.now l h | inr h ↦ absurd (good_begin p l (inside d) (begins d) (c.owns.ensures.0 c.if-not-owns.false) (omega arith) u) ]),
     )
