@@ -23,19 +23,15 @@ invariant_of-result c =
     let image = c.args.self.now.bytes.now in
     let sound = c.requires.sound in
     let d = c.in_ok-initial.initial.ok.0 ∙ ap length (initial at) in
-    let n = c.in_ok-lines.lines.ok.0 ∙ ap length (lines at) in (
-      in_range image sound data_section _ d,
-      (
-        in_range image sound mechanism_section _ (c.in_ok-activation.activation.ok.0 ∙ ap length (activation at)),
-        (
-          in_range image sound module_section _ (c.in_ok-lengths.lengths.ok.0 ∙ ap length (lengths at)),
-          (
-            in_range image sound line_section _ n,
-            (c.in_ok-initial.ensures.1, (bits_inside image sound _ _ (activation at) d, (all_lines image sound _ _ (lengths at) n, tt))),
-          ),
-        ),
-      ),
-    )
+    let n = c.in_ok-lines.lines.ok.0 ∙ ap length (lines at) in record {
+      data_count = in_range image sound data_section _ d;
+      mechanism_count = in_range image sound mechanism_section _ (c.in_ok-activation.activation.ok.0 ∙ ap length (activation at));
+      module_count = in_range image sound module_section _ (c.in_ok-lengths.lengths.ok.0 ∙ ap length (lengths at));
+      line_count = in_range image sound line_section _ n;
+      bytes_small = c.in_ok-initial.ensures.1;
+      bits_inside = bits_inside image sound _ _ (activation at) d;
+      all_lines = all_lines image sound _ _ (lengths at) n;
+    }
 
 pub returns : goal.returns
 returns c =
