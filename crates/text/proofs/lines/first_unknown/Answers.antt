@@ -12,6 +12,6 @@ use Rattle.text.proofs.lines.first_unknown.Goals as goal
 pub loop-i-preserved : goal.loop-i-preserved
 loop-i-preserved c =
     let test : List Line → Bool = λ xs. is_some (option_map operand_of (decode (get_or xs c.loop-i.i no_line))) in
-    let known = sym (ap is_some c.operand_of.ensures) ∙ c.is-none.ensures ∙ ap not c.if-is-none.false in
+    let known = sym (ap is_some c.operand_of.ensures) ∙ c.is_none.ensures ∙ ap not c.if-is_none.false in
     below_more (λ (k : ℕ). Unknown (meant c.args.program.now) k → ⊥) c.loop-i.i c.loop-i.invariant
     (λ u. both_ways _ (ap test c.deref-line-items.ensures.value ∙ ap (λ o. is_some (option_map operand_of o)) u.1) known)

@@ -9,8 +9,8 @@ loop-i-init c =
     let n = c.args.program.now.lines.ok.0 in
     let m = vec_len c.args.program.now.activation in
     let count : c.len-count.result ≡ length xs = omega arith in
-    let filled : vec_items c.in-ok-table.table ≡ replicate m (length xs) = c.in-ok-table.ensures.items-if-clones-equal (λ y e. e) ∙ ap (λ (j : ℕ). replicate j c.len-count.result) c.len.ensures ∙ ap (replicate m) count in
-    (search rules, subst (λ (j : ℕ). Firsts xs c.args.code (vec_items c.in-ok-table.table) m j) (sym count) (first_none xs c.args.code (vec_items c.in-ok-table.table) m filled))
+    let filled : vec_items c.in_ok-table.table ≡ replicate m (length xs) = c.in_ok-table.ensures.items_if_clones_equal (λ y e. e) ∙ ap (λ (j : ℕ). replicate j c.len-count.result) c.len.ensures ∙ ap (replicate m) count in
+    (search rules, subst (λ (j : ℕ). Firsts xs c.args.code (vec_items c.in_ok-table.table) m j) (sym count) (first_none xs c.args.code (vec_items c.in_ok-table.table) m filled))
 
 pub loop-i-preserved-then-k-len : goal.loop-i-preserved-then-k-len
 loop-i-preserved-then-k-len c =

@@ -6,8 +6,8 @@ use Rattle.image.specs.Held.{meant}
 use Rattle.text.proofs.Firsts.{find_within}
 use Rattle.text.proofs.formed.Formed.mechanism_span.Goals as goal
 
-pub overflow-add-result : goal.overflow-add-result
-overflow-add-result c =
+pub overflow_add-result : goal.overflow_add-result
+overflow_add-result c =
     let s = c.args.self.now in
     let k = c.args.k in
     let a = s.begins.ok.0 in
@@ -19,8 +19,8 @@ overflow-add-result c =
     let within = find_within (λ x. is_begin x && eqb x.operand k) (vec_items s.program.lines) in
     search rules
 
-pub overflow-add-result-2 : goal.overflow-add-result-2
-overflow-add-result-2 c =
+pub overflow_add-result-2 : goal.overflow_add-result-2
+overflow_add-result-2 c =
     let s = c.args.self.now in
     let k = c.args.k in
     let a = s.ends.ok.0 in

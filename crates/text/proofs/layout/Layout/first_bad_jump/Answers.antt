@@ -7,4 +7,4 @@ use Rattle.text.proofs.layout.Layout.first_bad_jump.Goals as goal
 pub loop-i-preserved : goal.loop-i-preserved
 loop-i-preserved c =
     below_more (λ (k : ℕ). IsBadJump (meant c.args.self.now.program) k → ⊥) c.loop-i.i c.loop-i.invariant
-    (λ b. both_ways c.is_bad_jump.result c.if-is-bad-jump.false (c.is_bad_jump.ensures.1 b))
+    (λ b. both_ways c.is_bad_jump.result c.if-is_bad_jump.false (c.is_bad_jump.ensures.1 b))

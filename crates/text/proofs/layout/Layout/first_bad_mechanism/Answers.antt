@@ -6,13 +6,13 @@ use Rattle.text.specs.Finds.{Finds}
 use Rattle.text.proofs.LeftOver.{none_left, one_left}
 use Rattle.text.proofs.layout.Layout.first_bad_mechanism.Goals as goal
 
-pub returns-then-not-is-left-over : goal.returns-then-not-is-left-over
-returns-then-not-is-left-over c =
-    none_left (meant c.args.self.now.program) c.first-unpaired-unpaired.result c.first-unpaired-unpaired.ensures (λ h. both_ways c.is-left-over.result c.if-not-is-left-over.true (c.is-left-over.ensures.1 h))
+pub returns-then-not-is_left_over : goal.returns-then-not-is_left_over
+returns-then-not-is_left_over c =
+    none_left (meant c.args.self.now.program) c.first_unpaired-unpaired.result c.first_unpaired-unpaired.ensures (λ h. both_ways c.is_left_over.result c.if-not-is_left_over.true (c.is_left_over.ensures.1 h))
 
 pub returns : goal.returns
 returns c =
     let p = meant c.args.self.now.program in
-    let e = c.start-of-end.result in
-    subst (λ (i : ℕ). Finds (IsBadMechanism p) (Some i)) (sym (c.min.ensures ∙ ap (λ (i : ℕ). min i e) c.unwrap-or.ensures))
-    (one_left p c.first-unpaired-unpaired.result e c.start-of-end.ensures c.first-unpaired-unpaired.ensures (c.is-left-over.ensures.0 c.if-not-is-left-over.false))
+    let e = c.start_of-end.result in
+    subst (λ (i : ℕ). Finds (IsBadMechanism p) (Some i)) (sym (c.min.ensures ∙ ap (λ (i : ℕ). min i e) c.unwrap_or.ensures))
+    (one_left p c.first_unpaired-unpaired.result e c.start_of-end.ensures c.first_unpaired-unpaired.ensures (c.is_left_over.ensures.0 c.if-not-is_left_over.false))

@@ -15,4 +15,4 @@ lands-requires c =
     let n = p.lines.ok.0 in
     let all = (shaped p).all_lines in
     let h = c.requires in
-    subst (λ (u : UnitId). Numbered u) (sym c.unit-at-unit.ensures) (numbered (meant p) c.args.line (omega arith) (omega arith))
+    subst (λ (u : UnitId). Numbered u) (sym c.unit_at-unit.ensures) (numbered (meant p) c.args.line (omega arith) (omega arith))

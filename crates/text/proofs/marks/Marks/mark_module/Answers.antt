@@ -31,11 +31,11 @@ loop-i-preserved c =
     let inv = c.loop-i.invariant in
     let opened : c.loop-i.opened ≡ open_after None (stretch p.lines (module_first p m) i) = inv.1 ∙ ap (λ (f : ℕ). open_after None (stretch p.lines f i)) c.requires.first in
     let flagged = inv.2 ∙ ap (λ (f : ℕ). flag_after _ (stretch p.lines f i)) c.requires.first in
-    let unit : c.if-module-eq-MAIN.unit ≡ unit_of p i = elim c.if-module-eq-MAIN.branch [ then-module-eq-MAIN w ↦ w.unit-is ∙ w.main-or-unit.ensures ∙ unit_in_main p m i here c.loop-i.opened w.if-module-eq-MAIN.true opened | else-module-eq-MAIN w ↦ w.unit-is ∙ unit_elsewhere p m i here w.if-module-eq-MAIN.false ] in (
+    let unit : c.if-module-eq-MAIN.unit ≡ unit_of p i = elim c.if-module-eq-MAIN.branch [ then-module-eq-MAIN w ↦ w.unit-is ∙ w.main_or-unit.ensures ∙ unit_in_main p m i here c.loop-i.opened w.if-module-eq-MAIN.true opened | else-module-eq-MAIN w ↦ w.unit-is ∙ unit_elsewhere p m i here w.if-module-eq-MAIN.false ] in (
       marked_more p c.loop-i.self (record { units = c.push.new.self; flags = c.push-in-loop-i.new.self }) i c.if-module-eq-MAIN.unit c.loop-i.flag inv.0
-          c.in-ok-push.ensures.items c.in-ok-push-2.ensures.items c.in-ok-push.ensures.len c.in-ok-push-2.ensures.len unit (flag_is p m i here c.loop-i.flag flagged),
-      c.open-after-opened.ensures ∙ opened_more p c.args.first i x from inside there c.loop-i.opened inv.1,
-      c.flag-after-flag.ensures ∙ flagged_more p c.args.first i x from inside there c.loop-i.flag inv.2,
+          c.in_ok-push.ensures.items c.in_ok-push-2.ensures.items c.in_ok-push.ensures.len c.in_ok-push-2.ensures.len unit (flag_is p m i here c.loop-i.flag flagged),
+      c.open_after-opened.ensures ∙ opened_more p c.args.first i x from inside there c.loop-i.opened inv.1,
+      c.flag_after-flag.ensures ∙ flagged_more p c.args.first i x from inside there c.loop-i.flag inv.2,
     )
 
 pub returns : goal.returns
