@@ -48,7 +48,7 @@ module _ (p : Program) (sec : Shaped p) where
 
 -- MECHANISMS THAT ARE BEGUN NOWHERE
 
-pub missing : (p : Program) (begins : List ℕ) (n : ℕ) (r : Bool) → length begins ≡ length p.activation → n ≡ length p.lines → BeginsAre p begins → IsAnyAnswer (λ (y : ℕ) (t : Bool). Decides t (y ≡ n)) begins r → Decides r (Misses p)
+pub missing : (p : Program) (begins : List ℕ) (n : ℕ) (r : Bool) → length begins ≡ length p.activation → n ≡ length p.lines → BeginsAre p begins → IsAnyAnswer (λ (y : ℕ) (t : Bool). eqb y n ≡ t) begins r → Decides r (Misses p)
 missing p begins n r long count are h = Decides-like r to from (contains_decides eqb Decides-eqb begins n r h)
   where
     to : (k : ℕ) × (k < length begins) × HoldsAt (λ y. y ≡ n) begins k → Misses p

@@ -9,7 +9,16 @@ check_layout-requires c = subst (λ (q : Program). Keeps (meant q) 8) (sym c.in_
 
 pub invariant_of-result : goal.invariant_of-result
 invariant_of-result c =
-    let v = c.in_ok-layout.layout in (
-      (λ r l h b. c.in_ok-check_layout.ensures r l (omega arith) b),
-      (v.starts_count, (v.starts_are, (v.begins_count, (v.begins_are, (v.ends_count, (v.ends_are, (v.flags_count, (v.flags_are, (v.units_count, (v.units_are, tt)))))))))),
-    )
+    let v = c.in_ok-layout.layout in record {
+      unbroken = λ r l h b. c.in_ok-check_layout.ensures r l (omega arith) b;
+      starts_count = v.starts_count;
+      starts_are = v.starts_are;
+      begins_count = v.begins_count;
+      begins_are = v.begins_are;
+      ends_count = v.ends_count;
+      ends_are = v.ends_are;
+      flags_count = v.flags_count;
+      flags_are = v.flags_are;
+      units_count = v.units_count;
+      units_are = v.units_are;
+    }

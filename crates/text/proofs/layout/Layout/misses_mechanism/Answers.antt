@@ -1,4 +1,4 @@
-use Rattle.std.proofs.Common.{◌≡◌, ℕ, Bool, List, vec_items, Decides, subst, arith}
+use Rattle.std.proofs.Common.{◌≡◌, ℕ, Bool, List, vec_items, eqb, subst, arith}
 use Rattle.std.specs.List.{IsAnyAnswer}
 use Rattle.image.specs.Held.{meant}
 use Rattle.text.proofs.LeftOver.{missing}
@@ -13,4 +13,4 @@ returns c =
     let d = s.program.lines.ok.0 in
     let m = s.begins_count in
     missing (meant s.program) (vec_items s.begins) n c.contains.result (omega arith) (omega arith) s.begins_are
-    (subst (λ (xs : List ℕ). IsAnyAnswer (λ (y : ℕ) (t : Bool). Decides t (y ≡ n)) xs c.contains.result) c.deref.ensures.value c.contains.ensures.cases)
+    (subst (λ (xs : List ℕ). IsAnyAnswer (λ (y : ℕ) (t : Bool). eqb y n ≡ t) xs c.contains.result) c.deref.ensures.value c.contains.ensures.cases)
