@@ -12,7 +12,7 @@ use std::alloc::{AllocError, Global};
 // Joins a value to the entry at place k.
 fn merge<M: Measure>(measure: &M, table: &mut Vec<Option<M::Value>>, k: usize, v: M::Value)
     requires { k < vec_len table.old }
-    ensures { table.new.items ≡ slice_set table.old.items k (merged joined (slice_index_or table.old.items k None) v) }
+    ensures { table.new.items ≡ slice_set table.old.items k (merged M.joined (slice_index_or table.old.items k None) v) }
 {
     table[k] = match table[k] {
         Some(old) => Some(measure.join(old, v)),
@@ -36,8 +36,8 @@ fn blank<V: Copy>(n: usize, heap: Global) -> Result<Vec<Option<V>>, AllocError>
 fn visit<M: Measure>(measure: &M, unit: &UnitText<'_>, i: usize, table: &mut Vec<Option<M::Value>>)
     requires low { unit.now.first ≤ i }
     requires within { i < unit.now.end }
-    requires staged { Staged begins (effect measure.now) joined (program_of unit.now) unit.now.id i table.old.items }
-    ensures { Staged begins (effect measure.now) joined (program_of unit.now) unit.now.id (i + 1) table.new.items }
+    requires staged { Staged M.begins (M.effect measure.now) M.joined (program_of unit.now) unit.now.id i table.old.items }
+    ensures { Staged M.begins (M.effect measure.now) M.joined (program_of unit.now) unit.now.id (i + 1) table.new.items }
 {
     let Some(v) = table[i - unit.first] else {
         return;
@@ -69,7 +69,7 @@ pub fn walk<M: Measure>(
     unit: &UnitText<'_>,
     heap: Global,
 ) -> Result<Vec<Option<M::Value>>, AllocError>
-    ensures { IfOk result (λ t. Walked begins (effect measure.now) joined (program_of unit.now) unit.now.id t.items) }
+    ensures { IfOk result (λ t. Walked M.begins (M.effect measure.now) M.joined (program_of unit.now) unit.now.id t.items) }
 {
     let mut table = blank(unit.end - unit.first, heap)?;
     merge(measure, &mut table, 0, measure.start());

@@ -19,9 +19,9 @@ fn finish<M: Measure>(
 ) -> M::Value
     requires low { unit.now.first ≤ i }
     requires within { i < unit.now.end }
-    requires walked { Walked begins (effect measure.now) joined (program_of unit.now) unit.now.id table.now.items }
-    requires so_far { JoinOf joined (Stopped begins (effect measure.now) (program_of unit.now) unit.now.id i) best }
-    ensures { JoinOf joined (Stopped begins (effect measure.now) (program_of unit.now) unit.now.id (i + 1)) result }
+    requires walked { Walked M.begins (M.effect measure.now) M.joined (program_of unit.now) unit.now.id table.now.items }
+    requires so_far { JoinOf M.joined (Stopped M.begins (M.effect measure.now) (program_of unit.now) unit.now.id i) best }
+    ensures { JoinOf M.joined (Stopped M.begins (M.effect measure.now) (program_of unit.now) unit.now.id (i + 1)) result }
 {
     let Some(v) = table[i - unit.first] else {
         return best;
@@ -39,8 +39,8 @@ pub fn total<M: Measure>(
     unit: &UnitText<'_>,
     table: &Vec<Option<M::Value>>,
 ) -> M::Value
-    requires { Walked begins (effect measure.now) joined (program_of unit.now) unit.now.id table.now.items }
-    ensures { JoinOf joined (Whole begins (effect measure.now) (program_of unit.now) unit.now.id) result }
+    requires { Walked M.begins (M.effect measure.now) M.joined (program_of unit.now) unit.now.id table.now.items }
+    ensures { JoinOf M.joined (Whole M.begins (M.effect measure.now) (program_of unit.now) unit.now.id) result }
 {
     let Some(v) = table[unit.end - unit.first] else {
         return measure.start();

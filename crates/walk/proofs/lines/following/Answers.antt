@@ -22,8 +22,8 @@ index-requires c =
     let u = c.args.unit.now in
     omega (arith, real u c.args.l c.args.line c.requires.own c.requires.read c.if-line-eq22.true, u.formed.now.ends_count)
 
-pub overflow-add-result : goal.overflow-add-result
-overflow-add-result c =
+pub overflow_add-result : goal.overflow_add-result
+overflow_add-result c =
     let u = c.args.unit.now in
     let f = u.formed.now in
     let h = real u c.args.l c.args.line c.requires.own c.requires.read c.if-line-eq22.true in

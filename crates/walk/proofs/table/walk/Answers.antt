@@ -8,14 +8,14 @@ use Rattle.walk.proofs.Covering.{put_same}
 use Rattle.walk.proofs.Walking.{before, walked}
 use Rattle.walk.proofs.table.walk.Goals as goal
 
-pub overflow-sub-unit : goal.overflow-sub-unit
-overflow-sub-unit g c = let u = c.args.unit.now in omega (arith, (unit_sound u).order, u.first_is, u.end_is)
+pub overflow_sub-unit : goal.overflow_sub-unit
+overflow_sub-unit g c = let u = c.args.unit.now in omega (arith, (unit_sound u).order, u.first_is, u.end_is)
 
 pub merge-requires : goal.merge-requires
 merge-requires g c =
     let u = c.args.unit.now in
-    let n = ap length c.in-ok-table.ensures ∙ length-replicate (u.end - u.first + 1) None in
-    omega (arith, n, c.in-ok-table.table.ok.0)
+    let n = ap length c.in_ok-table.ensures ∙ length-replicate (u.end - u.first + 1) None in
+    omega (arith, n, c.in_ok-table.table.ok.0)
 
 pub loop-i-init : goal.loop-i-init
 loop-i-init g c =
@@ -24,7 +24,7 @@ loop-i-init g c =
     let p = program_of u in
     let e = m.effect c.args.measure.now in
     let count : u.end - u.first + 1 ≡ end p u.id - first p u.id + 1 = omega (arith, u.first_is, u.end_is) in
-    let blank = c.in-ok-table.ensures ∙ ap (λ (n : ℕ). replicate n None) count in
+    let blank = c.in_ok-table.ensures ∙ ap (λ (n : ℕ). replicate n None) count in
     subst (λ (n : ℕ). Staged m.begins e m.joined p u.id n (vec_items c.merge.new.table)) (sym u.first_is)
     (before p u.id (unit_sound u) m.begins e (m.laws _) _ (c.merge.ensures ∙ put_same m.joined blank (omega arith) c.start.ensures))
 

@@ -7,20 +7,20 @@ use Rattle.walk.proofs.Givens.{unit_sound, read_at_end}
 use Rattle.walk.proofs.Totals.{some_end, from_end, in_total}
 use Rattle.walk.proofs.whole.total.Goals as goal
 
-pub overflow-sub-unit : goal.overflow-sub-unit
-overflow-sub-unit g c = let u = c.args.unit.now in omega (arith, (unit_sound u).order, u.first_is, u.end_is)
+pub overflow_sub-unit : goal.overflow_sub-unit
+overflow_sub-unit g c = let u = c.args.unit.now in omega (arith, (unit_sound u).order, u.first_is, u.end_is)
 
 pub index-requires : goal.index-requires
 index-requires g c = let u = c.args.unit.now in omega (arith, (unit_sound u).order, u.first_is, u.end_is, c.requires.long, c.args.table.now.ok.0)
 
-pub returns-in-default : goal.returns-in-default
-returns-in-default g c =
+pub returns-in_default : goal.returns-in_default
+returns-in_default g c =
     let m = g.M.Measure in
     let u = c.args.unit.now in
     let p = program_of u in
     let room : u.end - u.first < length (vec_items c.args.table.now) = omega (arith, (unit_sound u).order, u.first_is, u.end_is, c.requires.long) in
     absurd (some_end p u.id (unit_sound u) m.begins (m.effect c.args.measure.now) _ c.requires
-    (read_at_end u _ _ room c.index.ensures ∙ c.in-default.is))
+    (read_at_end u _ _ room c.index.ensures ∙ c.in_default.is))
 
 pub loop-i-init : goal.loop-i-init
 loop-i-init g c =
