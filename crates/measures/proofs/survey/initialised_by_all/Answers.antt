@@ -9,27 +9,27 @@ use Rattle.measures.specs.Models.{set_of, set_after}
 use Rattle.measures.proofs.Sets.{by_all}
 use Rattle.measures.proofs.survey.initialised_by_all.Goals as goal
 
-pub overflow-sub-unit : goal.overflow-sub-unit
-overflow-sub-unit c = let u = c.args.unit.now in omega (arith, (unit_sound u).order, u.first_is, u.end_is)
+pub overflow_sub-unit : goal.overflow_sub-unit
+overflow_sub-unit c = let u = c.args.unit.now in omega (arith, (unit_sound u).order, u.first_is, u.end_is)
 
 pub index-requires : goal.index-requires
-index-requires c = let u = c.args.unit.now in omega (arith, (unit_sound u).order, u.first_is, u.end_is, c.in-ok-table.ensures.long, c.in-ok-table.table.ok.0)
+index-requires c = let u = c.args.unit.now in omega (arith, (unit_sound u).order, u.first_is, u.end_is, c.in_ok-table.ensures.long, c.in_ok-table.table.ok.0)
 
-pub returns-in-default : goal.returns-in-default
-returns-in-default c =
+pub returns-in_default : goal.returns-in_default
+returns-in_default c =
     let u = c.args.unit.now in
     let p = program_of u in
-    let t = vec_items c.in-ok-table.table in
-    let walked = c.in-ok-table.ensures in
+    let t = vec_items c.in_ok-table.table in
+    let walked = c.in_ok-table.ensures in
     let room : u.end - u.first < length t = omega (arith, (unit_sound u).order, u.first_is, u.end_is, walked.long) in
-    absurd (some_end p u.id (unit_sound u) (set_of 0) set_after t walked (read_at_end u t _ room c.index.ensures ∙ c.in-default.is))
+    absurd (some_end p u.id (unit_sound u) (set_of 0) set_after t walked (read_at_end u t _ room c.index.ensures ∙ c.in_default.is))
 
 pub returns : goal.returns
 returns c =
     let u = c.args.unit.now in
     let p = program_of u in
-    let t = vec_items c.in-ok-table.table in
-    let walked = c.in-ok-table.ensures in
+    let t = vec_items c.in_ok-table.table in
+    let walked = c.in_ok-table.ensures in
     let room : u.end - u.first < length t = omega (arith, (unit_sound u).order, u.first_is, u.end_is, walked.long) in
     by_all p u.id ((formed_by_rules u.formed.now).shaped.counts mechanism_section).1 c.in-Some.set
     (entry_joins p u.id (unit_sound u) (set_of 0) set_after t walked (end p u.id) c.in-Some.set (unit_sound u).order (read_at_end u t _ room c.index.ensures ∙ c.in-Some.is))

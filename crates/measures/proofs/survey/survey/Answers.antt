@@ -9,5 +9,5 @@ pub returns : goal.returns
 returns c =
     let u = c.args.unit.now in
     let bounds = c.args.bounds.now in
-    surveyed u bounds (vec_items c.in-ok-table.table)
-    (subst (λ (flags : List Bool). Walked (0, (pos 0, pos 0)) (beside (steps_after bounds) (depths_after flags)) (paired max wider) (program_of u) u.id (vec_items c.in-ok-table.table)) c.as-slice.ensures.value c.in-ok-table.ensures)
+    surveyed u bounds (vec_items c.in_ok-table.table)
+    (subst (λ (flags : List Bool). Walked (0, (pos 0, pos 0)) (beside (steps_after bounds) (depths_after flags)) (paired max wider) (program_of u) u.id (vec_items c.in_ok-table.table)) c.as_slice.ensures.value c.in_ok-table.ensures)
