@@ -14,28 +14,28 @@ one_more : (u : UnitText) (i : ℕ) → ((k : ℕ) → k < i → IsBadIn (progra
 one_more u i before here k h = elim (cases_order k i) [ inl e ↦ (λ b. here (subst (IsBadIn (program_of u) u.id) e b)) | inr (inl l) ↦ before k l | inr (inr g) ↦ absurd (omega arith) ]
 
 pub loop-l-init : goal.loop-l-init
-loop-l-init c k h b = low c.args.unit.now (vec_items c.in-ok-table.table) c.in-ok-table.ensures k h b
+loop-l-init c k h b = low c.args.unit.now (vec_items c.in_ok-table.table) c.in_ok-table.ensures k h b
 
-pub returns-then-is-bad-line : goal.returns-then-is-bad-line
-returns-then-is-bad-line c = (c.if-is-bad-line.ensures.0 refl, c.loop-l.invariant)
+pub returns-then-is_bad_line : goal.returns-then-is_bad_line
+returns-then-is_bad_line c = (c.if-is_bad_line.ensures.0 refl, c.loop-l.invariant)
 
 pub loop-l-preserved : goal.loop-l-preserved
-loop-l-preserved c = one_more c.args.unit.now c.loop-l.l c.loop-l.invariant (not_so false c.if-is-bad-line.ensures refl)
+loop-l-preserved c = one_more c.args.unit.now c.loop-l.l c.loop-l.invariant (not_so false c.if-is_bad_line.ensures refl)
 
-pub returns-then-is-bad-end : goal.returns-then-is-bad-end
-returns-then-is-bad-end c =
+pub returns-then-is_bad_end : goal.returns-then-is_bad_end
+returns-then-is_bad_end c =
     let u = c.args.unit.now in
-    let o = in_order u (vec_items c.in-ok-table.table) c.in-ok-table.ensures in
+    let o = in_order u (vec_items c.in_ok-table.table) c.in_ok-table.ensures in
     let last = c.loop-l.auto.l-end o in
-    (c.if-is-bad-end.ensures.0 refl, λ k h. c.loop-l.invariant k (let x = c.loop-l-test.false in omega arith))
+    (c.if-is_bad_end.ensures.0 refl, λ k h. c.loop-l.invariant k (let x = c.loop-l-test.false in omega arith))
 
 pub returns : goal.returns
 returns c =
     let u = c.args.unit.now in
-    let t = vec_items c.in-ok-table.table in
-    let s = c.in-ok-table.ensures in
+    let t = vec_items c.in_ok-table.table in
+    let s = c.in_ok-table.ensures in
     λ k. elim (cases_order k u.end) [
-      | inl e ↦ (λ b. not_so false c.if-is-bad-end.ensures refl (subst (IsBadIn (program_of u) u.id) e b))
+      | inl e ↦ (λ b. not_so false c.if-is_bad_end.ensures refl (subst (IsBadIn (program_of u) u.id) e b))
       | inr (inl l) ↦ c.loop-l.invariant k (let x = c.loop-l-test.false in omega arith)
       | inr (inr g) ↦ high u t s k g
     ]

@@ -12,8 +12,8 @@ not_true : (b : Bool) → not b ≡ true → b ≡ false
 not_true false h = refl
 not_true true h = absurd (both_ways false refl h)
 
-pub overflow-sub-unit : goal.overflow-sub-unit
-overflow-sub-unit c = in_order c.args.unit.now (vec_items c.args.table.now) c.requires
+pub overflow_sub-unit : goal.overflow_sub-unit
+overflow_sub-unit c = in_order c.args.unit.now (vec_items c.args.table.now) c.requires
 
 pub index-requires : goal.index-requires
 index-requires c =

@@ -24,8 +24,8 @@ flag_read u l b o r =
     let room : l < length (vec_items f.flags) = omega (arith, f.flags.ok.0, f.flags_count, f.program.lines.ok.0) in
     get_or_read _ _ _ room r false ∙ f.flags_are l h
 
-pub line-of-line-requires : goal.line-of-line-requires
-line-of-line-requires c = let u = c.args.unit.now in let h = below u c.args.l c.requires in let e = u.end_is in omega arith
+pub line_of-line-requires : goal.line_of-line-requires
+line_of-line-requires c = let u = c.args.unit.now in let h = below u c.args.l c.requires in let e = u.end_is in omega arith
 
 pub returns-then-low-eq0 : goal.returns-then-low-eq0
 returns-then-low-eq0 c =
@@ -34,16 +34,16 @@ returns-then-low-eq0 c =
     let l = c.args.l in
     let same : c.args.depths.0 ≡ c.args.depths.1 = omega (arith, ints) in
     let zero : c.args.depths.0 ≡ pos 0 = omega (arith, ints) in
-    let told : c.takes-a-cell.result ≡ pops p l = c.takes-a-cell.ensures ∙ ap (λ (x : Line). eqb x.mode 2 && (is LA x || is LO x || is LX x)) c.line-of-line.ensures in
+    let told : c.takes_a_cell.result ≡ pops p l = c.takes_a_cell.ensures ∙ ap (λ (x : Line). eqb x.mode 2 && (is LA x || is LO x || is LX x)) c.line_of-line.ensures in
     (λ h. pop_misfits p u.id l c.requires (below u l c.requires) _ _ same zero (sym told ∙ h), λ m. told ∙ popped_at_none p u.id l c.requires (below u l c.requires) _ _ same zero m)
 
-pub returns-then-wants-no-cell : goal.returns-then-wants-no-cell
-returns-then-wants-no-cell c =
+pub returns-then-wants_no_cell : goal.returns-then-wants_no_cell
+returns-then-wants_no_cell c =
     let u = c.args.unit.now in
     let p = program_of u in
     let l = c.args.l in
     let same : c.args.depths.0 ≡ c.args.depths.1 = omega (arith, ints) in
-    (λ h. bare_misfits p u.id l c.requires (below u l c.requires) _ _ same (λ e. omega (arith, ints)) (ap (λ (x : Line). is_exit x || (is_begin x || is_end x)) (sym c.line-of-line.ensures) ∙ sym c.if-wants-no-cell.ensures), λ m. refl)
+    (λ h. bare_misfits p u.id l c.requires (below u l c.requires) _ _ same (λ e. omega (arith, ints)) (ap (λ (x : Line). is_exit x || (is_begin x || is_end x)) (sym c.line_of-line.ensures) ∙ sym c.if-wants_no_cell.ensures), λ m. refl)
 
 pub returns-then-low-ne8 : goal.returns-then-low-ne8
 returns-then-low-ne8 c =
@@ -51,7 +51,7 @@ returns-then-low-ne8 c =
     let p = program_of u in
     let l = c.args.l in
     let same : c.args.depths.0 ≡ c.args.depths.1 = omega (arith, ints) in
-    let free = ap (λ (x : Line). is_exit x || (is_begin x || is_end x)) (sym c.line-of-line.ensures) ∙ sym c.if-wants-no-cell.ensures in
+    let free = ap (λ (x : Line). is_exit x || (is_begin x || is_end x)) (sym c.line_of-line.ensures) ∙ sym c.if-wants_no_cell.ensures in
     (λ h. absurd (both_ways false refl h), λ m. absurd (let e = (pushed_at_eight p u.id l c.requires (below u l c.requires) _ _ same (λ e. omega (arith, ints)) free m).1 in omega (arith, ints)))
 
 pub returns : goal.returns
@@ -61,7 +61,7 @@ returns c =
     let l = c.args.l in
     let same : c.args.depths.0 ≡ c.args.depths.1 = omega (arith, ints) in
     let eight : c.args.depths.0 ≡ pos 8 = omega (arith, ints) in
-    let free = ap (λ (x : Line). is_exit x || (is_begin x || is_end x)) (sym c.line-of-line.ensures) ∙ sym c.if-wants-no-cell.ensures in
+    let free = ap (λ (x : Line). is_exit x || (is_begin x || is_end x)) (sym c.line_of-line.ensures) ∙ sym c.if-wants_no_cell.ensures in
     let flag = flag_read u l _ c.requires c.index.ensures in
-    let told : c.puts-a-cell.result ≡ pushes p l = c.puts-a-cell.ensures ∙ ap (λ (x : Line). is LDR x && c.index.result.now) c.line-of-line.ensures ∙ ap (λ (b : Bool). is LDR (line_at p l) && b) flag in
+    let told : c.puts_a_cell.result ≡ pushes p l = c.puts_a_cell.ensures ∙ ap (λ (x : Line). is LDR x && c.index.result.now) c.line_of-line.ensures ∙ ap (λ (b : Bool). is LDR (line_at p l) && b) flag in
     (λ h. push_misfits p u.id l c.requires (below u l c.requires) _ _ same eight (sym told ∙ h), λ m. told ∙ (pushed_at_eight p u.id l c.requires (below u l c.requires) _ _ same (λ e. omega (arith, ints)) free m).0)

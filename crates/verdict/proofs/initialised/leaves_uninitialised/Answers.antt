@@ -28,14 +28,14 @@ here : (u : UnitText) (f : Formed) (m : ℕ) (b : Bool) → u.formed.now ≡ f �
 here u f m b e q t =
     subst (λ (v : UnitId). TellsLeftOut (meant f.program) v b) q (subst (λ (g : Formed). TellsLeftOut (meant g.program) u.id b) e t)
 
-pub returns-in-default : goal.returns-in-default
-returns-in-default c =
+pub returns-in_default : goal.returns-in_default
+returns-in_default c =
     let p = c.args.formed.now.program in
     let n = ((shaped p).counts module_section).0 in
     let h = c.requires in
-    absurd (c.in-default.ensures (omega arith))
+    absurd (c.in_default.ensures (omega arith))
 
 pub returns : goal.returns
 returns c =
     let p = meant c.args.formed.now.program in
-    told p c.args.module c.in-ok-all.all (here c.in-Some.unit c.args.formed.now c.args.module c.in-ok-all.all c.in-Some.ensures.0 c.in-Some.ensures.1 c.in-ok-all.ensures)
+    told p c.args.module c.in_ok-all.all (here c.in-Some.unit c.args.formed.now c.args.module c.in_ok-all.all c.in-Some.ensures.0 c.in-Some.ensures.1 c.in_ok-all.ensures)

@@ -5,10 +5,10 @@ use Rattle.theory.proofs.Null.{null_accepted}
 use Rattle.verdict.proofs.NullTables.{same_null, null_unbroken, null_starts, null_begins, null_ends, null_flags, null_units}
 use Rattle.verdict.proofs.null.null_program.Goals as goal
 
-pub invariant-of-formed : goal.invariant-of-formed
-invariant-of-formed c =
-    let e = same_null _ _ _ _ c.in-ok-initial.ensures.items c.new.ensures.items c.in-ok-lengths.ensures.items c.new-2.ensures.items in
-    let starts = c.in-ok-starts.ensures in
+pub invariant_of-formed : goal.invariant_of-formed
+invariant_of-formed c =
+    let e = same_null _ _ _ _ c.in_ok-initial.ensures.items c.new.ensures.items c.in_ok-lengths.ensures.items c.new-2.ensures.items in
+    let starts = c.in_ok-starts.ensures in
     let no_mechanism = c.new.ensures.len in
     let no_line = c.new-2.ensures.len in (
       null_unbroken _ e,
@@ -39,7 +39,7 @@ invariant-of-formed c =
       ),
     )
 
-pub invariant-of-result : goal.invariant-of-result
-invariant-of-result c =
-    let e = same_null _ _ _ _ c.in-ok-initial.ensures.items c.new.ensures.items c.in-ok-lengths.ensures.items c.new-2.ensures.items in
+pub invariant_of-result : goal.invariant_of-result
+invariant_of-result c =
+    let e = same_null _ _ _ _ c.in_ok-initial.ensures.items c.new.ensures.items c.in_ok-lengths.ensures.items c.new-2.ensures.items in
     ((λ rule place b. null_accepted.0.unbroken rule place (subst (λ (q : Program). Breaks q rule place) e b)), tt)

@@ -18,8 +18,8 @@ taken u f i v a b r e q n k x y =
     subst (Finds (IsBadAmong (meant f.program) (i + 1))) (sym k)
     (with_unit (meant f.program) i u.id (q ∙ n) (subst (λ (g : Formed). Real (meant g.program) u.id) e (unit_real u)) a b x (subst (λ (g : Formed). Finds (IsBadIn (meant g.program) u.id) b) e y))
 
-pub returns-in-default : goal.returns-in-default
-returns-in-default c = without_unit (meant c.args.formed.now.program) c.args.i c.unit-at.result c.unit-at.ensures c.in-default.ensures c.args.first c.requires
+pub returns-in_default : goal.returns-in_default
+returns-in_default c = without_unit (meant c.args.formed.now.program) c.args.i c.unit_at.result c.unit_at.ensures c.in_default.ensures c.args.first c.requires
 
 pub returns : goal.returns
-returns c = taken c.in-Some.unit c.args.formed.now c.args.i c.unit-at.result c.args.first c.in-ok-found.found c.earlier.result c.in-Some.ensures.0 c.in-Some.ensures.1 c.unit-at.ensures c.earlier.ensures c.requires c.in-ok-found.ensures
+returns c = taken c.in-Some.unit c.args.formed.now c.args.i c.unit_at.result c.args.first c.in_ok-found.found c.earlier.result c.in-Some.ensures.0 c.in-Some.ensures.1 c.unit_at.ensures c.earlier.ensures c.requires c.in_ok-found.ensures
