@@ -28,4 +28,6 @@ pub invariant_of-result : goal.invariant_of-result
 invariant_of-result c =
     let f = c.args.formed in
     let p = meant f.program in
-    (unbroken p f.unbroken (subst (Finds (IsBadDepth p)) c.in_default.is c.in_ok-bad.ensures) (c.in_ok-init_misses.ensures.1 c.if-init_misses.false) (c.in_ok-clear_misses.ensures.1 c.if-clear_misses.false), tt)
+    record {
+      unbroken = unbroken p f.unbroken (subst (Finds (IsBadDepth p)) c.in_default.is c.in_ok-bad.ensures) (c.in_ok-init_misses.ensures.1 c.if-init_misses.false) (c.in_ok-clear_misses.ensures.1 c.if-clear_misses.false);
+    }
