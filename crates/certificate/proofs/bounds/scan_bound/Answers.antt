@@ -8,33 +8,33 @@ use Rattle.theory.proofs.Text.{named}
 use Rattle.certificate.proofs.Scanning.{few_steps, scan_greatest}
 use Rattle.certificate.proofs.bounds.scan_bound.Goals as goal
 
-pub bound-of-requires-4 : goal.bound-of-requires-4
-bound-of-requires-4 c =
+pub bound_of-requires-4 : goal.bound_of-requires-4
+bound_of-requires-4 c =
     let p = c.args.formed.now.program in
     record {
       real = named (meant p) (shaped p) main_module (lit< tt);
-      bounded = λ e k h. subst (λ (xs : List ℕ). Greatest (Takes (meant p) (Mechanism k)) (get_or xs k 0)) (sym c.deref-4.ensures.value) (c.in-ok-bounds.ensures.each k h);
+      bounded = λ e k h. subst (λ (xs : List ℕ). Greatest (Takes (meant p) (Mechanism k)) (get_or xs k 0)) (sym c.deref-4.ensures.value) (c.in_ok-bounds.ensures.each k h);
     }
 
-pub overflow-add-result : goal.overflow-add-result
-overflow-add-result c =
+pub overflow_add-result : goal.overflow_add-result
+overflow_add-result c =
     let f = c.args.formed.now in
-    let a = few_steps f 0 _ (lit< tt) c.in-ok-input.ensures in
-    let b = few_steps f 1 _ (lit< tt) c.in-ok-block-init.ensures in
-    let d = few_steps f 2 _ (lit< tt) c.in-ok-block-done.ensures in
+    let a = few_steps f 0 _ (lit< tt) c.in_ok-input.ensures in
+    let b = few_steps f 1 _ (lit< tt) c.in_ok-block_init.ensures in
+    let d = few_steps f 2 _ (lit< tt) c.in_ok-block_done.ensures in
     omega (arith, c.max.ensures)
 
-pub overflow-add-result-2 : goal.overflow-add-result-2
-overflow-add-result-2 c =
+pub overflow_add-result-2 : goal.overflow_add-result-2
+overflow_add-result-2 c =
     let f = c.args.formed.now in
-    let a = few_steps f 0 _ (lit< tt) c.in-ok-input.ensures in
-    let b = few_steps f 1 _ (lit< tt) c.in-ok-block-init.ensures in
-    let d = few_steps f 2 _ (lit< tt) c.in-ok-block-done.ensures in
-    let m = few_steps f 3 _ (lit< tt) c.in-ok-main.ensures in
+    let a = few_steps f 0 _ (lit< tt) c.in_ok-input.ensures in
+    let b = few_steps f 1 _ (lit< tt) c.in_ok-block_init.ensures in
+    let d = few_steps f 2 _ (lit< tt) c.in_ok-block_done.ensures in
+    let m = few_steps f 3 _ (lit< tt) c.in_ok-main.ensures in
     omega (arith, c.max.ensures)
 
 pub returns : goal.returns
 returns c =
     let p = meant c.args.formed.now.program in
-    subst (λ (n : ℕ). Greatest (ScanTakes p) (c.in-ok-input.input + n + c.in-ok-main.main)) (sym c.max.ensures)
-    (scan_greatest p c.in-ok-input.ensures c.in-ok-block-init.ensures c.in-ok-block-done.ensures c.in-ok-main.ensures)
+    subst (λ (n : ℕ). Greatest (ScanTakes p) (c.in_ok-input.input + n + c.in_ok-main.main)) (sym c.max.ensures)
+    (scan_greatest p c.in_ok-input.ensures c.in_ok-block_init.ensures c.in_ok-block_done.ensures c.in_ok-main.ensures)

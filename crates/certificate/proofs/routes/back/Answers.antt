@@ -9,7 +9,7 @@ use Rattle.certificate.proofs.routes.back.Goals as goal
 pub loop-left-init : goal.loop-left-init
 loop-left-init c =
     let u = c.args.unit.now in
-    let here = c.steps-to-left.ensures in
+    let here = c.steps_to-left.ensures in
     (here, λ n v read h. subst (λ (w : ℕ). Goes_on (program_of u) u.id c.args.steps.now.bounds.now n (vec_items c.args.lines) c.args.m w) (some_same read here.read) h)
 
 pub loop-left-smaller : goal.loop-left-smaller
@@ -26,12 +26,12 @@ loop-left-preserved c =
     let table = vec_items c.args.table.now in
     let l = c.previous-at.result in
     let s = c.previous-at.ensures in
-    let here = c.steps-to-left-in-loop-left.ensures in
-    let left = c.steps-to-left-in-loop-left.result in (
+    let here = c.steps_to-left-in-loop-left.ensures in
+    let left = c.steps_to-left-in-loop-left.result in (
       here,
       λ n v read h.
           subst (λ (w : ℕ). Goes_on p u.id bounds n (vec_items c.push.new.self) l w) (some_same s.0.read here.read)
-          (subst (λ (z : List ℕ). Goes_on p u.id bounds n z l s.0.value) (sym c.in-ok-push.ensures.items)
+          (subst (λ (z : List ℕ). Goes_on p u.id bounds n z l s.0.value) (sym c.in_ok-push.ensures.items)
           (one_back p u.id (unit_sound u) bounds table c.requires.walked n c.loop-left.at c.loop-left.left l (vec_items c.loop-left.lines) s (c.loop-left.invariant.1 n v read h))),
     )
 

@@ -15,8 +15,8 @@ returns c =
     let p = program_of u in
     let bounds = c.args.bounds.now in
     let f = formed_by_rules u.formed.now in
-    let lines = vec_items c.in-ok-lines.lines in
-    let found = c.in-ok-lines.ensures in
+    let lines = vec_items c.in_ok-lines.lines in
+    let found = c.in_ok-lines.ensures in
     let n = c.total-best.result in
     let back : lines ≡ reverse (vec_items c.reverse.new.self) = sym (ap reverse c.reverse.ensures.items ∙ reverse-reverse lines) in
     subst (Longest p u.id) back

@@ -14,9 +14,9 @@ returns c =
     let u = c.args.unit.now in
     let p = program_of u in
     let l = c.args.l in
-    let v = c.in-ok-v.v in
+    let v = c.in_ok-v.v in
     let bounds = c.args.steps.now.bounds.now in
-    let read = sym c.in-ok-v.ensures in
+    let read = sym c.in_ok-v.ensures in
     let own : Own p u.id l = own_before p u.id (unit_sound u) l (omega (arith, c.requires.high, u.end_is)) (entry_own p u.id (unit_sound u) 0 (steps_after bounds) (vec_items c.args.table.now) c.requires.walked l v (omega (arith, c.requires.low, u.first_is)) read) in
-    let line_is : c.in-ok-line.line ≡ line_at p l = some_same (sym c.in-ok-line.ensures) (cond-true (ltb l (length p.lines)) (Some (line_at p l)) None (lt-ltb l (length p.lines) own.within)) in
+    let line_is : c.in_ok-line.line ≡ line_at p l = some_same (sym c.in_ok-line.ensures) (cond-true (ltb l (length p.lines)) (Some (line_at p l)) None (lt-ltb l (length p.lines) own.within)) in
     (line_is, record { own = own; value = v; read = read; adds = sym (c.step.ensures ∙ ap (λ (y : Line). steps_after bounds l y v) line_is) })

@@ -4,8 +4,8 @@ use Rattle.walk.proofs.Sound.{place_low, place_high}
 use Rattle.walk.proofs.Walking.{none_some}
 use Rattle.certificate.proofs.routes.steps_to.Goals as goal
 
-pub steps-at-requires : goal.steps-at-requires
-steps-at-requires c =
+pub steps_at-requires : goal.steps_at-requires
+steps_at-requires c =
     let u = c.args.unit.now in
     let m = c.args.m in
     let low = place_low (unit_sound u) m c.requires.place in

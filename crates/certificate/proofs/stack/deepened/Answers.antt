@@ -8,9 +8,9 @@ use Rattle.certificate.proofs.stack.deepened.Goals as goal
 
 pub returns : goal.returns
 returns c =
-    let u = c.real-unit-unit.result in
-    let n = c.highest-depth.result in
-    let table = vec_items c.in-ok-table.table in
-    moved (λ p i. Deepened p i c.args.so-far n) c.real-unit-unit.ensures.0 c.real-unit-unit.ensures.1
-    (unit_deepened (program_of u) u.id (unit_real u) (unit_sound u) _ table c.args.so-far n c.in-ok-table.ensures
-    (subst (λ (t : List (Option (ℕ × (ℤ × ℤ)))). Highest t (length t) c.args.so-far n) c.deref.ensures.value c.highest-depth.ensures))
+    let u = c.real_unit-unit.result in
+    let n = c.highest_depth.result in
+    let table = vec_items c.in_ok-table.table in
+    moved (λ p i. Deepened p i c.args.so_far n) c.real_unit-unit.ensures.0 c.real_unit-unit.ensures.1
+    (unit_deepened (program_of u) u.id (unit_real u) (unit_sound u) _ table c.args.so_far n c.in_ok-table.ensures
+    (subst (λ (t : List (Option (ℕ × (ℤ × ℤ)))). Highest t (length t) c.args.so_far n) c.deref.ensures.value c.highest_depth.ensures))

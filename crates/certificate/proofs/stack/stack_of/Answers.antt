@@ -13,16 +13,16 @@ pub loop-m-preserved : goal.loop-m-preserved
 loop-m-preserved c =
     let p = meant c.args.formed.now.program in
     let inv = c.loop-m.invariant in
-    let d = c.in-ok-stack.ensures in
-    let n = c.in-ok-stack.stack in
+    let d = c.in_ok-stack.ensures in
+    let n = c.in_ok-stack.stack in
     (d.attained inv.0, below_more (λ (j : ℕ). Within p n (Module j)) _ (λ j h. within_more {p = p} {u = Module j} d.no_less (inv.1 j h)) d.within)
 
 pub loop-k-preserved : goal.loop-k-preserved
 loop-k-preserved c =
     let p = meant c.args.formed.now.program in
     let inv = c.loop-k.invariant in
-    let d = c.in-ok-stack-2.ensures in
-    let n = c.in-ok-stack-2.stack in
+    let d = c.in_ok-stack-2.ensures in
+    let n = c.in_ok-stack-2.stack in
     (d.attained inv.0, (λ j h. within_more {p = p} {u = Module j} d.no_less (inv.1 j h)), below_more (λ (j : ℕ). Within p n (Mechanism j)) _ (λ j h. within_more {p = p} {u = Mechanism j} d.no_less (inv.2 j h)) d.within)
 
 pub returns : goal.returns

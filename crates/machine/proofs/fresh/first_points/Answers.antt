@@ -8,7 +8,7 @@ pub loop-k-preserved : goal.loop-k-preserved
 loop-k-preserved c =
     let p = program_of c.args.program.now in
     let h : c.loop-k.k < length (vec_items c.args.program.now.formed.program.activation) = omega arith in
-    one_point p p.activation (first_lines p 0 p.activation) (vec_items c.loop-k.points) (vec_items c.push.new.self) c.loop-k.k c.mechanism-first.result h c.loop-k.invariant c.mechanism-first.ensures c.in-ok-push.ensures.items
+    one_point p p.activation (first_lines p 0 p.activation) (vec_items c.loop-k.points) (vec_items c.push.new.self) c.loop-k.k c.mechanism_first.result h c.loop-k.invariant c.mechanism_first.ensures c.in_ok-push.ensures.items
 
 pub returns : goal.returns
 returns c =

@@ -3,8 +3,8 @@ use Rattle.rules.specs.Op.{is_begin}
 use Rattle.machine.proofs.Places.{entry_inside}
 use Rattle.machine.proofs.units.mechanism_first.Goals as goal
 
-pub overflow-add-result : goal.overflow-add-result
-overflow-add-result c =
+pub overflow_add-result : goal.overflow_add-result
+overflow_add-result c =
     let formed = c.args.program.now.formed in
     let k = c.args.mechanism in
     let inside : k < length (vec_items formed.program.activation) = omega arith in
