@@ -15,8 +15,8 @@ back-requires c = record { walked = c.requires.walked; place = inl c.in-Some.ens
 pub back-requires-in-None : goal.back-requires-in-None
 back-requires-in-None c = record { walked = c.requires.walked; place = inr c.args.unit.now.end_is }
 
-pub returns-in-ok-push : goal.returns-in-ok-push
-returns-in-ok-push c =
+pub returns-in_ok-push-in-Some : goal.returns-in_ok-push-in-Some
+returns-in_ok-push-in-Some c =
     let u = c.args.unit.now in
     let p = program_of u in
     let bounds = c.args.steps.now.bounds.now in
@@ -24,7 +24,7 @@ returns-in-ok-push c =
     let n = c.args.n in
     let l = c.in-Some.l in
     let s = c.in-Some.ensures in
-    let items = c.in-ok-push.ensures.items ∙ ap (λ (z : List ℕ). z ++ l ∷ []) c.new-lines.ensures.items in
+    let items = c.in_ok-push-in-Some.ensures.items ∙ ap (λ (z : List ℕ). z ++ l ∷ []) c.new-lines.ensures.items in
     let from = subst (λ (z : List ℕ). Goes_on p u.id bounds n z l s.0.value) (sym items) (from_stop p u.id (unit_sound u) bounds table c.requires.walked n l s) in
     made_then c.back.result (λ x h. h n s.0.value s.0.read from) c.back.ensures
 
