@@ -8,14 +8,14 @@ returns-in-Idle c = record { part = idle c.in-Idle.is refl refl; fitting = c.req
 
 pub returns-in-Preparing : goal.returns-in-Preparing
 returns-in-Preparing c = record {
-  part = preparing c.in-Preparing.is c.pass-prepared.ensures.passes c.phase-after-preparing.ensures;
+  part = preparing c.in-Preparing.is c.pass-prepared.ensures.passes c.phase_after_preparing.ensures;
   fitting = c.pass-prepared.ensures.fitting;
   bounded = c.pass-prepared.ensures.bounded;
 }
 
 pub returns-in-Closing : goal.returns-in-Closing
 returns-in-Closing c = record {
-  part = closing c.in-Closing.is c.pass-closed.ensures.passes c.phase-after-closing.ensures;
+  part = closing c.in-Closing.is c.pass-closed.ensures.passes c.phase_after_closing.ensures;
   fitting = c.pass-closed.ensures.fitting;
   bounded = c.pass-closed.ensures.bounded;
 }

@@ -9,8 +9,8 @@ use Rattle.session.proofs.Fits.{room}
 use Rattle.session.proofs.Passed.{scanned}
 use Rattle.session.proofs.scanning.scan_memory.Goals as goal
 
-pub take-inputs-requires : goal.take-inputs-requires
-take-inputs-requires g c = let r = room c.args.program.now c.args.memory.now c.requires in omega arith
+pub take_inputs-requires : goal.take_inputs-requires
+take_inputs-requires g c = let r = room c.args.program.now c.args.memory.now c.requires in omega arith
 
 pub pass-input-requires : goal.pass-input-requires
 pass-input-requires g c =
@@ -18,11 +18,11 @@ pass-input-requires g c =
     let eight = (g.met.C.Cabinet.lawful.eight_inputs c.args.cabinet.now).eight in
     record {
       named = lit< tt;
-      fitting = subst (λ (m : Memory). Fitting p m) (sym c.take-inputs.ensures) (inputs_fit p (formed p (accepted c.args.program.now)) (memory_of c.args.memory.now) (g.C.Cabinet.meaning.inputs c.args.cabinet.now) eight c.requires);
+      fitting = subst (λ (m : Memory). Fitting p m) (sym c.take_inputs.ensures) (inputs_fit p (formed p (accepted c.args.program.now)) (memory_of c.args.memory.now) (g.C.Cabinet.meaning.inputs c.args.cabinet.now) eight c.requires);
     }
 
 pub returns : goal.returns
 returns g c = record {
-  scans = scanned c.take-inputs.ensures (c.pass-input.ensures.whole refl) c.pass-input.ensures.passes c.block-part-block.ensures.part (c.pass-main.ensures.whole refl) c.pass-main.ensures.passes;
+  scans = scanned c.take_inputs.ensures (c.pass-input.ensures.whole refl) c.pass-input.ensures.passes c.block_part-block.ensures.part (c.pass-main.ensures.whole refl) c.pass-main.ensures.passes;
   fitting = c.pass-main.ensures.fitting;
 }

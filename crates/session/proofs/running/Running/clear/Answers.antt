@@ -11,16 +11,16 @@ use Rattle.session.proofs.running.Running.clear.Goals as goal
 pub pass-requires : goal.pass-requires
 pass-requires g c = let r = c.args.self.now in record { named = lit< tt; fitting = fits r.program.now r.memory r.bytes_fit r.points_fit r.pointed }
 
-pub invariant-of-self : goal.invariant-of-self
-invariant-of-self g c =
+pub invariant_of-self : goal.invariant_of-self
+invariant_of-self g c =
     let a = c.args.self.now.program.now in
-    let m = c.return-block-points.new.memory in
-    let f = subst (λ (x : Memory). Fitting (program_of a) x) (sym c.return-block-points.ensures) (back_fits (program_of a) (memory_of c.pass.new.memory) c.pass.ensures.fitting) in
+    let m = c.return_block_points.new.memory in
+    let f = subst (λ (x : Memory). Fitting (program_of a) x) (sym c.return_block_points.ensures) (back_fits (program_of a) (memory_of c.pass.new.memory) c.pass.ensures.fitting) in
     (kept_bytes a m f, (kept_points a m f, (kept_pointed (program_of a) (memory_of m) f, tt)))
 
 pub returns : goal.returns
 returns g c = record {
   same_program = refl;
-  comes = clears (record { steps = c.pass.result.steps; cleared_memory = memory_of c.pass.new.memory; clear_pass = to_end (c.pass.ensures.whole refl) c.pass.ensures.passes; memory_is = c.return-block-points.ensures; phase_zero = refl });
-  cabinet_after = c.send-outputs.ensures;
+  comes = clears (record { steps = c.pass.result.steps; cleared_memory = memory_of c.pass.new.memory; clear_pass = to_end (c.pass.ensures.whole refl) c.pass.ensures.passes; memory_is = c.return_block_points.ensures; phase_zero = refl });
+  cabinet_after = c.send_outputs.ensures;
 }

@@ -10,5 +10,5 @@ pass-requires g c = let r = c.args.self in record { named = lit< tt; fitting = f
 pub returns : goal.returns
 returns g c = record {
   comes = halts (record { steps = c.pass.result.steps; halt_pass = to_end (c.pass.ensures.whole refl) c.pass.ensures.passes; phase_stays = refl });
-  cabinet_after = c.send-outputs.ensures;
+  cabinet_after = c.send_outputs.ensures;
 }
