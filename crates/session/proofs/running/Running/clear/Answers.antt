@@ -16,7 +16,7 @@ invariant_of-self g c =
     let a = c.args.self.now.program.now in
     let m = c.return_block_points.new.memory in
     let f = subst (λ (x : Memory). Fitting (program_of a) x) (sym c.return_block_points.ensures) (back_fits (program_of a) (memory_of c.pass.new.memory) c.pass.ensures.fitting) in
-    (kept_bytes a m f, (kept_points a m f, (kept_pointed (program_of a) (memory_of m) f, tt)))
+    record { bytes_fit = kept_bytes a m f; points_fit = kept_points a m f; pointed = kept_pointed (program_of a) (memory_of m) f }
 
 pub returns : goal.returns
 returns g c = record {
