@@ -22,6 +22,7 @@ mod surveys;
 use arguments::{Command, command_of};
 use failure::Failure;
 use std::env;
+use std::process::ExitCode;
 
 const HELP: &str = "station certify IMAGE [--html PAGE]
                         the verdict on a program, with its certificate; an accepted
@@ -54,12 +55,12 @@ fn run(rt: &HostRuntime) -> Result<(), Failure> {
     }
 }
 
-fn main(rt: HostRuntime) -> Result<(), Failure> {
+fn main(rt: HostRuntime) -> ExitCode {
     match run(&rt) {
-        Ok(()) => Ok(()),
+        Ok(()) => ExitCode::SUCCESS,
         Err(failure) => {
             failure.tell(&rt);
-            Err(failure)
+            ExitCode::FAILURE
         }
     }
 }
