@@ -86,7 +86,7 @@ mod tests {
         );
         assert!(rt; done.is_ok());
         let expected = [0, 0, 0, 0, 1, 5, 0, 0, 1, 5, 0, 0, 0, 7, 0, 0, 0, 0, 0, 0];
-        assert!(rt; notes.seen.as_slice() == &expected);
+        assert!(rt; notes.seen.as_slice() == expected.as_slice());
         Ok(())
     }
 
@@ -117,7 +117,7 @@ mod tests {
             0, 0, 0, 0, 0, 0, 21, 0, 0, 0, 0, 1, 0, 0, 20, 1, 0, 2, 0, 1, 0, 0, 0, 2, 0, 0, 0, 3,
             0, 1, 0, 0, 0, 0, 0, 1, 0, 0, 0, 0, 0, 0, 0, 0,
         ];
-        assert!(rt; notes.seen.as_slice() == &expected);
+        assert!(rt; notes.seen.as_slice() == expected.as_slice());
         Ok(())
     }
 
