@@ -40,10 +40,14 @@ mod tests {
         assert!(rt; bytes.len() == 17);
         send(&mut patch, bytes.as_slice());
         read_inputs(&patch, &mut bytes);
-        assert!(rt; bytes.as_slice() == [0, 0, 0, 0, 0, 0, 0, 0, 1, 2, 3, 4, 5, 6, 7, 8, 9].as_slice());
+        assert!(rt;
+            bytes.as_slice() == [0, 0, 0, 0, 0, 0, 0, 0, 1, 2, 3, 4, 5, 6, 7, 8, 9].as_slice()
+        );
         patch.advance();
         read_inputs(&patch, &mut bytes);
-        assert!(rt; bytes.as_slice() == [1, 2, 3, 4, 5, 6, 7, 8, 1, 2, 3, 4, 5, 6, 7, 8, 9].as_slice());
+        assert!(rt;
+            bytes.as_slice() == [1, 2, 3, 4, 5, 6, 7, 8, 1, 2, 3, 4, 5, 6, 7, 8, 9].as_slice()
+        );
         assert_eq!(rt; terminals(&patch), [1, 2, 3, 4, 5, 6, 7, 8]);
         Ok(())
     }

@@ -9,7 +9,7 @@ use Rattle.rules.specs.Number.{bit}
 use Rattle.rules.specs.Program.{Program, line_at, op_at, flag_at, after, Own}
 use Rattle.rules.specs.Form.{Reaches}
 use Rattle.rules.specs.Verdict.{Accepted}
-use Rattle.rules.specs.Effect.{Registers, Turn, enters, skips, follows, goes, stops, waits, resumes, resets, Done, bit_in, keeping, effect}
+use Rattle.rules.specs.Effect.{Registers, Turn, enters, skips, follows, goes, stops, waits, resumes, resets, Done, bit_in, keeping}
 use Rattle.rules.specs.Run.{Memory, with_bytes, at, over, Config, enter, turned, effected, carried, Step, step, Runs}
 use Rattle.theory.specs.Decoded.{Says}
 use Rattle.theory.specs.Standing.{Fitting}

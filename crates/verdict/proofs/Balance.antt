@@ -4,7 +4,6 @@ use Rattle.std.proofs.lemmas.Bool.{both_ways}
 use Rattle.rules.specs.declared.unit.UnitId.{UnitId}
 use Rattle.rules.specs.Op.{is_begin, is_end, is_exit}
 use Rattle.rules.specs.Program.{Program, Own, line_at, end, pushes, pops}
-use Rattle.rules.specs.Verdict.{OffBalance}
 use Rattle.verdict.specs.Depths.{Misfits}
 
 one_of_three : (a b c : Bool) → (a || (b || c)) ≡ true → (a ≡ true) ⊎ ((b ≡ true) ⊎ (c ≡ true))

@@ -1,7 +1,7 @@
 -- The entries of a unit's survey, as tests read them. Assumes nothing.
-use Rattle.std.proofs.Common.{◌≡◌, ℕ, ◌+◌, ◌-◌, ◌<◌, ◌≤◌, ◌⊎◌, List, [], length, get_or, ℤ, Some, None, Option, sym, refl, ap, ◌∙◌, subst, inl, inr, arith}
+use Rattle.std.proofs.Common.{◌≡◌, ℕ, ◌+◌, ◌-◌, ◌<◌, ◌≤◌, List, [], length, get_or, ℤ, Some, None, Option, sym, ap, ◌∙◌, subst, inl, inr, arith}
 use Rattle.std.proofs.lemmas.List.{get_or_read}
-use Rattle.rules.specs.Program.{Own, first, end}
+use Rattle.rules.specs.Program.{Own, first}
 use Rattle.measures.specs.Meaning.{Surveyed, DepthRange}
 use Rattle.walk.specs.Walked.{OwnOrEnd}
 use Rattle.walk.specs.UnitTexts.{program_of}

@@ -1,5 +1,5 @@
 -- From what each layer tells to what a load tells. Assumes nothing.
-use Rattle.std.proofs.Common.{◌≡◌, ℕ, List, sym, refl, ap, ◌∙◌, subst}
+use Rattle.std.proofs.Common.{◌≡◌, ℕ, List, sym, ap, ◌∙◌, subst}
 use Rattle.rules.specs.Refusal.{rule_number}
 use Rattle.rules.specs.Program as rules
 use Rattle.rules.specs.Image.{ImageSound, program_of}
@@ -17,7 +17,7 @@ use Rattle.text.specs.Faults.{fault_rule, fault_place}
 use Rattle.text.specs.Verdicts.{Told}
 use Rattle.verdict.specs.declared.accepted.Accepted.{Accepted}
 use Rattle.verdict.specs.declared.fault.LoadFault.{LoadFault}
-use Rattle.verdict.specs.declared.fault.LoadFault.TheVariants.{Image, Text, Memory}
+use Rattle.verdict.specs.declared.fault.LoadFault.TheVariants.{Image}
 use Rattle.verdict.specs.Loads.{from_check, RefusedSo}
 
 pub by_the_image : (image : List ℕ) (e : ImageFault) (f : LoadFault) → RefusedBy image e → f ≡ Image e → RefusedSo image f

@@ -1,5 +1,5 @@
 -- From what the checks found to the refusal, and to acceptance. Assumes nothing.
-use Rattle.std.proofs.Common.{◌≡◌, ℕ, ◌<◌, ◌≤◌, ◌⊎◌, refl, subst, inl, inr, arith}
+use Rattle.std.proofs.Common.{◌≡◌, ℕ, ◌<◌, ◌⊎◌, refl, subst, inl, inr, arith}
 use Rattle.rules.specs.Program.{Program, init_module, clear_module}
 use Rattle.rules.specs.Verdict.{IsBadDepth, MissesInit, Breaks, by_unknown_line, by_bad_operand, by_bad_mechanism, by_bad_jump, by_bad_exit, by_bad_init, by_bad_depth, by_uninitialised, TextRefused}
 use Rattle.text.specs.Tables.{Unbroken}

@@ -1,4 +1,4 @@
-use Rattle.std.proofs.Common.{◌≡◌, ℕ, ◌≤◌, Bool, true, false, not, eqb, ℤ, pos, vec_items, sym, refl, ap, ◌∙◌, subst, inl, inr, arith, w32, of_z, rules}
+use Rattle.std.proofs.Common.{◌≡◌, ℕ, Bool, true, false, not, eqb, ℤ, pos, vec_items, sym, refl, ap, subst, inl, inr, arith, w32, of_z, rules}
 use Rattle.std.proofs.lemmas.Int.{ints}
 use Rattle.std.proofs.lemmas.Bool.{both_ways}
 use Rattle.walk.specs.UnitTexts.{program_of}

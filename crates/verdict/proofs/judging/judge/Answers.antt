@@ -1,4 +1,4 @@
-use Rattle.std.proofs.Common.{◌≡◌, ℕ, Option, refl, subst}
+use Rattle.std.proofs.Common.{subst}
 use Rattle.rules.specs.Verdict.{IsBadDepth}
 use Rattle.image.specs.Held.{meant}
 use Rattle.text.specs.Finds.{Finds}

@@ -1,10 +1,7 @@
-use Rattle.std.proofs.Common.{◌≡◌, ℕ, List, sym, ap, ◌∙◌, subst}
-use Rattle.rules.specs.Program as rules
+use Rattle.std.proofs.Common.{ap, ◌∙◌, subst}
 use Rattle.rules.specs.Image.{ImageSound, program_of}
 use Rattle.std.proofs.lemmas.Result.{err_from_is_err_and}
 use Rattle.image.specs.Held.{meant}
-use Rattle.image.specs.Refusals.{RefusedBy}
-use Rattle.text.specs.declared.formed.Formed.{Formed}
 use Rattle.verdict.proofs.Loading.{by_the_image, by_the_text, loaded}
 use Rattle.verdict.proofs.place.accept.Goals as goal
 

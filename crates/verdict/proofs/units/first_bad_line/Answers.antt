@@ -1,5 +1,5 @@
-use Rattle.std.proofs.Common.{◌≡◌, ℕ, ◌+◌, ◌≤◌, length, subst, arith}
-use Rattle.rules.specs.Image.{mechanism_section, module_section}
+use Rattle.std.proofs.Common.{◌≡◌, ℕ, ◌+◌, length, subst, arith}
+use Rattle.rules.specs.Image.{module_section}
 use Rattle.image.specs.Held.{meant}
 use Rattle.text.specs.Finds.{Finds}
 use Rattle.text.proofs.Shape.{shaped}

@@ -1,6 +1,6 @@
-use Rattle.std.proofs.Common.{◌≡◌, ℕ, ◌+◌, Option, sym, ap, ◌∙◌, subst}
+use Rattle.std.proofs.Common.{◌≡◌, ℕ, ◌+◌, Option, sym, ◌∙◌, subst}
 use Rattle.rules.specs.declared.unit.UnitId.{UnitId}
-use Rattle.rules.specs.Program.{Program, Real}
+use Rattle.rules.specs.Program.{Real}
 use Rattle.image.specs.Held.{meant}
 use Rattle.text.specs.declared.formed.Formed.{Formed}
 use Rattle.text.specs.Finds.{Finds}

@@ -1,7 +1,5 @@
-use Rattle.std.proofs.Common.{◌≡◌, sym, refl, ◌∙◌, arith}
-use Rattle.rules.specs.Session.{Machine}
+use Rattle.std.proofs.Common.{arith}
 use Rattle.machine.specs.Views.{memory_of}
-use Rattle.session.specs.States.{machine_in}
 use Rattle.session.proofs.Conducting.{begun, more, unhalted_calls, halted_calls, halted_session, left_session, guaranteed, throughout}
 use Rattle.session.proofs.conduct.conducting.conduct.Goals as goal
 

@@ -1,4 +1,4 @@
-use Rattle.std.proofs.Common.{◌≡◌, ◌+◌, ◌<◌, length, vec_items, vec_len, vec_capacity}
+use Rattle.std.proofs.Common.{◌≡◌, ◌<◌, length, vec_items, vec_len, vec_capacity}
 use Rattle.machine.specs.Views.{program_of}
 use Rattle.session.specs.Called.{Started}
 use Rattle.session.proofs.Conducting.{Going}

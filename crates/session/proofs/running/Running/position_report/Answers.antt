@@ -1,5 +1,5 @@
-use Rattle.std.proofs.Common.{◌≡◌, refl}
-use Rattle.rules.specs.Session.{Machine, reports, no_report}
+use Rattle.std.proofs.Common.{refl}
+use Rattle.rules.specs.Session.{reports, no_report}
 use Rattle.machine.specs.Views.{memory_of}
 use Rattle.session.proofs.running.Running.position_report.Goals as goal
 

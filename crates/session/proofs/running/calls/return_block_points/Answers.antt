@@ -1,4 +1,4 @@
-use Rattle.std.proofs.Common.{◌≡◌, ℕ, ◌<◌, length, get_or, vec_items, vec_len, ◌∙◌, arith, lit<}
+use Rattle.std.proofs.Common.{◌≡◌, ℕ, ◌<◌, length, get_or, vec_items, ◌∙◌, arith, lit<}
 use Rattle.std.proofs.lemmas.List.{get_or_read}
 use Rattle.rules.specs.Program.{module_first, block_init, block_done}
 use Rattle.machine.specs.Views.{program_of, memory_of}

@@ -1,4 +1,4 @@
-use Rattle.std.proofs.Common.{sym, refl, subst, arith, lit<}
+use Rattle.std.proofs.Common.{sym, subst, lit<}
 use Rattle.rules.specs.Run.{Memory}
 use Rattle.machine.specs.Views.{program_of}
 use Rattle.theory.specs.Standing.{Fitting}
