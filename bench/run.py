@@ -11,7 +11,7 @@ import tempfile
 import time
 
 HERE = os.path.dirname(os.path.abspath(__file__))
-STATION = os.path.join(HERE, "..", "target", "bin", "station")
+STATION = os.path.join(HERE, "..", "crates", "station", "out", "station")
 SCANS = 10000
 REPEATS = 5
 IMAGES = ["logic.img", "numbers.img", "mechanisms.img", "mixed.img"]
