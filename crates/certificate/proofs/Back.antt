@@ -9,7 +9,7 @@ use Rattle.walk.proofs.Sound.{Sound, place_low}
 use Rattle.walk.proofs.Totals.{entry_joins}
 use Rattle.measures.specs.Models.{bound_of, steps_after}
 use Rattle.measures.proofs.Longest.{largest}
-use Rattle.certificate.specs.Longest.{LongestAt, GoesPast, Leads, Stops, Goes_on}
+use Rattle.certificate.specs.Longest.{LongestAt, GoesPast, Leads, Stops, GoesOn}
 
 -- more steps before a line are more after it
 rises : (n a b : ℕ) → a ≤ b → min (a + 1 + n) (2 ^ 32 - 1) ≤ min (b + 1 + n) (2 ^ 32 - 1)
@@ -66,20 +66,20 @@ module _ (p : Program) (u : UnitId) (sound : Sound p u) (bounds : List ℕ) (t :
       go (l ∷ path) (stopped a o x) e =
           absurd (none l (past l path a o n e (λ w b. g.none_above _ (l ∷ b.0, stopped b.1 o x, ap (steps_after bounds l (line_at p l)) b.2)), x))
 
-  pub from_end : (n : ℕ) → Goes_on p u bounds n [] (end p u) n
+  pub from_end : (n : ℕ) → GoesOn p u bounds n [] (end p u) n
   from_end n path a e = (to_end a, e)
 
-  pub from_stop : (n l : ℕ) (s : Stops p u bounds t n l) → Goes_on p u bounds n (l ∷ []) l s.0.value
+  pub from_stop : (n l : ℕ) (s : Stops p u bounds t n l) → GoesOn p u bounds n (l ∷ []) l s.0.value
   from_stop n l s path a e = (stopped a s.0.own s.1, ap (steps_after bounds l (line_at p l)) e ∙ s.0.adds)
 
   -- one line back
-  pub one_back : (n m v l : ℕ) (lines : List ℕ) (s : Leads p u bounds t m v l) → Goes_on p u bounds n lines m v → Goes_on p u bounds n (lines ++ l ∷ []) l s.0.value
+  pub one_back : (n m v l : ℕ) (lines : List ℕ) (s : Leads p u bounds t m v l) → GoesOn p u bounds n lines m v → GoesOn p u bounds n (lines ++ l ∷ []) l s.0.value
   one_back n m v l lines s h path a e =
       subst (λ (z : List ℕ). Route p u z × (counted z ≡ n)) (sym (append_assoc lines (l ∷ []) path))
       (h (l ∷ path) (passed a s.0.own s.1) (ap (steps_after bounds l (line_at p l)) e ∙ s.0.adds))
 
   -- at a place to which a longest route has no step, a route begins
-  pub begun : (n m : ℕ) (lines : List ℕ) → LongestAt p u t m 0 → Goes_on p u bounds n lines m 0 → Route p u lines × (counted lines ≡ n)
+  pub begun : (n m : ℕ) (lines : List ℕ) → LongestAt p u t m 0 → GoesOn p u bounds n lines m 0 → Route p u lines × (counted lines ≡ n)
   begun n m lines at h = go g.attained.0 g.attained.1 g.attained.2
     where
       g : Greatest (Brought 0 (steps_after bounds) p u m) 0

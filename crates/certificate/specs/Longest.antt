@@ -53,12 +53,12 @@ abbrev pub Counts : Program → UnitId → List ℕ → ℕ → List ℕ → Typ
 Counts p u bounds n path = Route p u path × (along 0 (steps_after bounds) p path ≡ n)
 
 -- each route to m with v steps goes on by lines, the newest first, to a whole route with n steps
-abbrev pub Goes_on : Program → UnitId → List ℕ → ℕ → List ℕ → ℕ → ℕ → Type 0
-Goes_on p u bounds n lines m v = (path : List ℕ) → Arrives p u path m → along 0 (steps_after bounds) p path ≡ v → Counts p u bounds n (lines ++ path)
+abbrev pub GoesOn : Program → UnitId → List ℕ → ℕ → List ℕ → ℕ → ℕ → Type 0
+GoesOn p u bounds n lines m v = (path : List ℕ) → Arrives p u path m → along 0 (steps_after bounds) p path ≡ v → Counts p u bounds n (lines ++ path)
 
 -- lines that go on from a longest route to m to a whole one are now a whole one
 abbrev pub EndsAs : Program → UnitId → List ℕ → List (Option ℕ) → List ℕ → ℕ → List ℕ → Type 0
-EndsAs p u bounds table lines m path = (n v : ℕ) → entry_of p u table m ≡ Some v → Goes_on p u bounds n lines m v → Counts p u bounds n path
+EndsAs p u bounds table lines m path = (n v : ℕ) → entry_of p u table m ≡ Some v → GoesOn p u bounds n lines m v → Counts p u bounds n path
 
 -- a route, the newest line first, that has as many steps as any of its unit
 abbrev pub Longest : Program → UnitId → List ℕ → Type 0

@@ -57,7 +57,7 @@ pub record OneOutcome (p : Program) (ins : List ℕ) (before : Machine) (c : Cal
   pub no_other : (r : Answer) (m : Machine) → Outcome p ins before c r m → (r ≡ answer) × (m ≡ machine_after)
 
 -- what holds at every state of a session, be it after the start or after a call
-pub record Kept {X : Type 0} (M : Meaning X) (p : Program) (stack scan : ℕ) (first-answer : Answer) (done : List (Call × Answer)) (machine : Machine) (x : X) : Type 0 where
+pub record Kept {X : Type 0} (M : Meaning X) (p : Program) (stack scan : ℕ) (first_answer : Answer) (done : List (Call × Answer)) (machine : Machine) (x : X) : Type 0 where
   -- every pass of whichever call comes next has a rule for each step
   pub ruled : (u : UnitId) (m : Memory) → RunsPass p machine (M.inputs x) u m → Ruled p stack u m
   -- no scan so far had more steps than the certificate says
@@ -68,7 +68,7 @@ pub record Kept {X : Type 0} (M : Meaning X) (p : Program) (stack scan : ℕ) (f
   pub as_many : length machine.memory.bytes ≡ length p.initial
   pub bytes_small : Bytes machine.memory.bytes
   -- the start was answered by phase 0
-  pub start_answered : first-answer ≡ Done Idle
+  pub start_answered : first_answer ≡ Done Idle
   -- whichever call comes next has one outcome
   pub one_outcome : (c : Call) → OneOutcome p (M.inputs x) machine c
 
@@ -77,4 +77,4 @@ pub record Guaranteed {X : Type 0} (M : Meaning X) (p : Program) (stack scan : �
   pub at_most_eight : stack ≤ 8
   pub one_start : OneStart p
   pub start_ruled : Ruled p stack (Module init_module) (fresh p)
-  pub kept : (x₀ : X) (first-answer : Answer) (done : List (Call × Answer)) (machine : Machine) (x : X) → Session M p x₀ first-answer done machine x → Kept M p stack scan first-answer done machine x
+  pub kept : (x₀ : X) (first_answer : Answer) (done : List (Call × Answer)) (machine : Machine) (x : X) → Session M p x₀ first_answer done machine x → Kept M p stack scan first_answer done machine x

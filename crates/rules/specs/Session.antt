@@ -125,6 +125,6 @@ module _ {X : Type 0} (M : Meaning X) where
   CabinetAfter Halt x m z = Sent M x (outputs m) z
 
   -- a session so far: its start with the start's answer, and the calls with their answers, the newest first; nothing follows a halt
-  pub data Session (p : Program) (x₀ : X) (first-answer : Answer) : List (Call × Answer) → Machine → X → Type 0 where
-    started : {after : Machine} {y : X} → Starts p first-answer after → Sent M x₀ (outputs after.memory) y → Session p x₀ first-answer [] after y
-    called : {done : List (Call × Answer)} {before after : Machine} {x y : X} {c : Call} {r : Answer} → Session p x₀ first-answer done before x → Running done → Outcome p (M.inputs x) before c r after → CabinetAfter c x after.memory y → Session p x₀ first-answer ((c, r) ∷ done) after y
+  pub data Session (p : Program) (x₀ : X) (first_answer : Answer) : List (Call × Answer) → Machine → X → Type 0 where
+    started : {after : Machine} {y : X} → Starts p first_answer after → Sent M x₀ (outputs after.memory) y → Session p x₀ first_answer [] after y
+    called : {done : List (Call × Answer)} {before after : Machine} {x y : X} {c : Call} {r : Answer} → Session p x₀ first_answer done before x → Running done → Outcome p (M.inputs x) before c r after → CabinetAfter c x after.memory y → Session p x₀ first_answer ((c, r) ∷ done) after y

@@ -81,7 +81,7 @@ pub(crate) fn scan_memory<C: Cabinet>(
     phase: Phase,
 ) -> ScanAnswer
     requires { Fitting (program_of program.now) (memory_of memory.old) }
-    ensures scans { Scans (program_of program.now) (C.Cabinet.meaning.inputs cabinet.now) (record { memory = memory_of memory.entry.now; phase = phase }) result.steps (record { memory = memory_of memory.exit.now; phase = result.phase }) }
+    ensures scans { Scans (program_of program.now) (C.Cabinet.meaning.inputs cabinet.now) (record { memory = memory_of memory.old; phase = phase }) result.steps (record { memory = memory_of memory.new; phase = result.phase }) }
     ensures fitting { Fitting (program_of program.now) (memory_of memory.new) }
 {
     take_inputs(cabinet, memory);

@@ -263,11 +263,11 @@ sessions_go_on M law serve p acc x₀ = (first_session M law serve p acc x₀, n
 -- THE GUARANTEE
 
 module _ {X : Type 0} (M : Meaning X) (law : Lawful M) (p : Program) (acc : Accepted p) (lines stack scan : ℕ) (cert : Certified p lines stack scan) where
-  record Holds (first-answer : Answer) (done : List (Call × Answer)) (machine : Machine) (x : X) : Type 0 where
+  record Holds (first_answer : Answer) (done : List (Call × Answer)) (machine : Machine) (x : X) : Type 0 where
     ready : Ready p acc machine
     shows : M.terminals x ≡ outputs machine.memory
     within : Within scan done
-    answered : first-answer ≡ Done Idle
+    answered : first_answer ≡ Done Idle
 
   -- a call that leaves the memory alone leaves the cabinet alone
   after_shows : (before after : Machine) (x y : X) (c : Call) (r : Answer) → M.terminals x ≡ outputs before.memory → Outcome p (M.inputs x) before c r after → CabinetAfter M c x after.memory y → M.terminals y ≡ outputs after.memory
@@ -279,7 +279,7 @@ module _ {X : Type 0} (M : Meaning X) (law : Lawful M) (p : Program) (acc : Acce
   after_shows before after x y c r h (no_report q) v = ap M.terminals v ∙ h
   after_shows before after x y c r h (halts s) v = v.terminals_are
 
-  session_holds : (x₀ : X) (first-answer : Answer) (done : List (Call × Answer)) (machine : Machine) (x : X) → Session M p x₀ first-answer done machine x → Holds first-answer done machine x
+  session_holds : (x₀ : X) (first_answer : Answer) (done : List (Call × Answer)) (machine : Machine) (x : X) → Session M p x₀ first_answer done machine x → Holds first_answer done machine x
   session_holds x₀ a done machine x (started s v) = record { ready = start_ready p acc a machine s; shows = v.terminals_are; within = tt; answered = s.answers ∙ ap Done s.phase_zero }
   session_holds x₀ a done machine x (called {done = d} {before = b} {x = w} {c = c} {r = r} s run o v) =
       let h = session_holds x₀ a d b w s in

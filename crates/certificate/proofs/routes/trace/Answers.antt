@@ -1,7 +1,7 @@
 use Rattle.std.proofs.Common.{◌≡◌, ℕ, List, [], ◌∷◌, ◌++◌, IfOk, Some, Ok, Err, vec_items, Result, sym, ap, ◌∙◌, subst, inl, inr}
 use Rattle.walk.specs.UnitTexts.{program_of}
 use Rattle.walk.proofs.Givens.{unit_sound}
-use Rattle.certificate.specs.Longest.{entry_of, Goes_on}
+use Rattle.certificate.specs.Longest.{entry_of, GoesOn}
 use Rattle.certificate.proofs.Back.{stop_or_end, from_end, from_stop}
 use Rattle.certificate.proofs.routes.trace.Goals as goal
 
@@ -25,7 +25,7 @@ returns-in_ok-push-in-Some c =
     let l = c.in-Some.l in
     let s = c.in-Some.ensures in
     let items = c.in_ok-push-in-Some.ensures.items ∙ ap (λ (z : List ℕ). z ++ l ∷ []) c.new-lines.ensures.items in
-    let from = subst (λ (z : List ℕ). Goes_on p u.id bounds n z l s.0.value) (sym items) (from_stop p u.id (unit_sound u) bounds table c.requires.walked n l s) in
+    let from = subst (λ (z : List ℕ). GoesOn p u.id bounds n z l s.0.value) (sym items) (from_stop p u.id (unit_sound u) bounds table c.requires.walked n l s) in
     made_then c.back.result (λ x h. h n s.0.value s.0.read from) c.back.ensures
 
 pub returns-in-None : goal.returns-in-None
@@ -38,5 +38,5 @@ returns-in-None c =
     let e = sym u.end_is in
     let here = stop_or_end p u.id (unit_sound u) bounds table c.requires.walked n c.requires.best c.in-None.ensures in
     let read = subst (λ (m : ℕ). entry_of p u.id table m ≡ Some n) e here.read in
-    let from = subst (λ (z : List ℕ). Goes_on p u.id bounds n z u.end n) (sym c.new-lines.ensures.items) (subst (λ (m : ℕ). Goes_on p u.id bounds n [] m n) e (from_end p u.id (unit_sound u) bounds table c.requires.walked n)) in
+    let from = subst (λ (z : List ℕ). GoesOn p u.id bounds n z u.end n) (sym c.new-lines.ensures.items) (subst (λ (m : ℕ). GoesOn p u.id bounds n [] m n) e (from_end p u.id (unit_sound u) bounds table c.requires.walked n)) in
     made_then c.back-in-None.result (λ x h. h n n read from) c.back-in-None.ensures
