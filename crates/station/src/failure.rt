@@ -34,8 +34,11 @@ impl<T: Drop> From<AllocFailed<T>> for Failure {
 }
 
 impl From<io::Error> for Failure {
-    fn from(_e: io::Error) -> Failure {
-        Failure::Unwritable
+    fn from(e: io::Error) -> Failure {
+        match e.kind() {
+            io::ErrorKind::OutOfMemory => Failure::Memory,
+            _ => Failure::Unwritable,
+        }
     }
 }
 
