@@ -125,6 +125,7 @@ def main():
     edits = dict(names)
     edits.update({name: name.replace('-', '_') for name in TURNED})
     rt_files = sorted(glob.glob(os.path.join(TOP, 'crates/*/src/**/*.rt'), recursive=True))
+    left = set()
     edit_files = sorted(glob.glob(os.path.join(TOP, 'crates/*/must-fail/*.edit')))
     for path in antt_files() + rt_files + edit_files:
         text = open(path, encoding='utf-8').read()
@@ -138,13 +139,14 @@ def main():
             continue
         if report:
             before = set(TOKEN.findall(text))
+            left |= before & set(edits)
             here = {old: new for old, new in names.items() if old in before and new in before}
             for old, new in sorted(here.items()):
                 print(f'{os.path.relpath(path, TOP)}: {old} becomes {new}, which stands there already')
         else:
             open(path, 'w', encoding='utf-8').write(new_text)
     if report:
-        print(len(names), 'names')
+        print(len(left), 'names')
 
 
 if __name__ == '__main__':
