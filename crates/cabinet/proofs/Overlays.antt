@@ -1,6 +1,8 @@
 -- Eight bytes put over the front of a list, byte by byte. Assumes nothing.
-use Rattle.std.proofs.Common.{◌≡◌, ℕ, ◌+◌, ◌<◌, ◌≤◌, List, [], ◌∷◌, ◌++◌, length, get_or, take, drop, set, sym, ap, ◌∙◌, arith, length-drop, length-take}
-use Rattle.std.proofs.lemmas.List.{append-nil, append_assoc, drop_more, take_more, set_at, length-take-le, take_all, drop_all, get_or-take, get_or-drop}
+use Rattle.std.proofs.Common.{◌≡◌, ℕ, ◌+◌, ◌<◌, ◌≤◌, cond, List, [], ◌∷◌, ◌++◌, length, get_or, take, drop, set, sym, ap, ◌∙◌, arith, length-append, length-drop, length-take}
+use Rattle.std.proofs.lemmas.List.{append_assoc, drop_more, take_more, set_at, length-take-le, take_at}
+use Rattle.std.proofs.lemmas.Bool.{lt-ltb}
+use Rattle.cabinet.specs.Ports.{written}
 
 module _ (xs ys : List ℕ) where
   -- the first i bytes of xs put over ys
@@ -16,17 +18,17 @@ module _ (xs ys : List ℕ) where
       ∙ sym (append_assoc (take i xs) (get_or xs i 0 ∷ []) (drop (i + 1) ys))
       ∙ ap (λ l. l ++ drop (i + 1) ys) (sym (take_more xs i 0 h))
 
-  -- all eight stand there
-  pub over_all : (bytes : List ℕ) (i : ℕ) → i ≡ 8 → length xs ≡ 8 → bytes ≡ over i → bytes ≡ xs ++ drop 8 ys
-  over_all bytes i at h e = e ∙ ap over at ∙ ap (λ l. l ++ drop 8 ys) (take_all 8 xs (omega arith))
-
-  -- all eight stand there, and nothing else does
-  pub over_whole : (bytes : List ℕ) (i : ℕ) → i ≡ 8 → length xs ≡ 8 → length ys ≡ 8 → bytes ≡ over i → bytes ≡ xs
-  over_whole bytes i at h k e = over_all bytes i at h e ∙ ap (λ l. xs ++ l) (drop_all 8 ys (omega arith)) ∙ append-nil xs
+-- eight bytes put over the front of a list at once
+pub put_front : (xs bytes ys rest : List ℕ) (n : ℕ) → bytes ≡ xs → rest ≡ ys → length xs ≡ 8 → 8 ≤ length ys → n ≡ length ys → take n ((bytes ++ drop 8 rest) ++ drop (length (bytes ++ drop 8 rest)) ys) ≡ xs ++ drop 8 ys
+put_front xs bytes ys rest n e f h k l =
+    let long = ap length e in
+    let left = ap length f in
+    take_at (bytes ++ drop 8 rest) _ n (simp (length-append, length-drop) (omega arith)) ∙ cc
 
 -- the output bytes of the data
 pub length-outputs : (d : List ℕ) → 16 ≤ length d → length (take 8 (drop 8 d)) ≡ 8
 length-outputs d h = simp (length-take, length-drop) (omega arith)
 
-pub get_or-outputs : (d : List ℕ) (i : ℕ) → i < 8 → get_or d (8 + i) 0 ≡ get_or (take 8 (drop 8 d)) i 0
-get_or-outputs d i h = sym (get_or-take 8 (drop 8 d) i 0 h ∙ get_or-drop 8 d i 0)
+-- a write to a port that every cabinet has
+pub written_there : (bytes : List ℕ) (port b : ℕ) → port < 8 → written bytes port b ≡ set bytes port b
+written_there bytes port b h = ap (λ t. cond t (set bytes port b) bytes) (lt-ltb port 8 h)

@@ -1,5 +1,5 @@
 -- One row more, and the row that stops. Assumes nothing.
-use Rattle.std.proofs.Common.{◌≡◌, ℕ, suc, ◌+◌, ◌<◌, ◌≤◌, cond, List, ◌∷◌, length, get_or, drop, sym, ap, ◌∙◌, le-leb}
+use Rattle.std.proofs.Common.{◌≡◌, ℕ, suc, ◌+◌, ◌<◌, ◌≤◌, Bool, true, false, cond, leb, List, [], ◌∷◌, length, get_or, drop, sym, ap, ◌∙◌, arith, le-leb}
 use borrow.Author.Tests.{lt-leb}
 use Rattle.std.proofs.lemmas.List.{drop_more}
 use Rattle.cabinet.specs.declared.row.Row.{Row}
@@ -24,3 +24,12 @@ module _ (rows : List Row) (i : ℕ) (row : Row) (n : ℕ) (within : i < length 
 
   pub due_stop : n < row.scan → due n (drop i rows) ≡ 0
   due_stop h = ap (due n) left ∙ ap (λ b. cond b (suc (due n rest)) 0) (lt-leb _ _ h)
+
+-- no more rows are due than there are
+pub due_within : (n : ℕ) (rows : List Row) → due n rows ≤ length rows
+due_within n [] = omega arith
+due_within n (r ∷ rows) = go (leb r.scan n) (due_within n rows)
+  where
+    go : (t : Bool) → due n rows ≤ length rows → cond t (suc (due n rows)) 0 ≤ suc (length rows)
+    go true h = omega arith
+    go false h = omega arith

@@ -10,12 +10,12 @@ pub enum PortFault {
     PortAboveSeven,
 }
 
-impl PortFault {
-    /// The rule that is broken.
-    pub fn rule(self) -> Rule
-        ensures { result ≡ rule_of_fault self }
-    {
-        match self {
+/// The rule that is broken.
+impl From<PortFault> for Rule {
+    ghost from_gives = { λ fault rule. rule ≡ rule_of_fault fault };
+
+    fn from(fault: PortFault) -> Rule {
+        match fault {
             PortFault::PortAboveSeven => Rule::PortAboveSeven,
         }
     }

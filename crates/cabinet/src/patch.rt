@@ -46,7 +46,6 @@ impl Cabinet for Patch {
     }
 
     fn advance(&mut self) {
-        let shown = self.terminals;
-        self.inputs = shown;
+        self.inputs = self.terminals;
     }
 }

@@ -1,6 +1,5 @@
 // A cabinet whose inputs follow rows by scan number.
-ghost use Rattle.std.specs.Prelude.{◌≡◌, ◌+◌, drop};
-ghost use Rattle.cabinet.specs.Meanings.{stimulus_meaning};
+ghost use Rattle.std.specs.Prelude.{◌≡◌, ◌≤◌, length, vec_len};
 ghost use Rattle.cabinet.specs.Ports.{zeros};
 ghost use Rattle.cabinet.specs.Rows.{applied, due};
 ghost use Rattle.std.proofs.Common.{rules};
@@ -18,23 +17,23 @@ pub struct Stimulus {
     number: u32,
     inputs: EightBytes,
     terminals: EightBytes,
+    ghost within: { cursor ≤ vec_len rows },
 }
 
-/// Applies rows from the cursor on, until one has a larger number than the one given; answers where that row stands.
-fn apply(rows: &[Row], cursor: usize, number: u32, inputs: &mut EightBytes) -> usize
-    ensures inputs { inputs.new.bytes ≡ applied number (drop cursor rows.now) inputs.old.bytes }
-    ensures cursor { result ≡ cursor + due number (drop cursor rows.now) }
+/// Applies rows in order, up to the first with a larger number than the one given; answers how many those are.
+fn apply(rows: &[Row], number: u32, inputs: &mut EightBytes) -> usize
+    ensures inputs { inputs.new.bytes ≡ applied number rows.now inputs.old.bytes }
+    ensures count { result ≡ due number rows.now }
+    ensures within { result ≤ length rows.now }
 {
-    let mut at = cursor;
-    while at < rows.len() {
-        let row = rows[at];
+    for (count, row) in rows.iter().enumerate() {
         if row.scan > number {
-            break;
+            return count;
         }
+        // a port above 7 changes nothing
         let _ = inputs.write(row.port, row.byte);
-        at += 1;
     }
-    at
+    rows.len()
 }
 
 impl Stimulus {
@@ -48,7 +47,7 @@ impl Stimulus {
         ensures terminals { result.terminals.bytes ≡ zeros }
     {
         let mut inputs = EightBytes::zero();
-        let cursor = apply(rows.as_slice(), 0, 0, &mut inputs);
+        let cursor = apply(&rows, 0, &mut inputs);
         Stimulus {
             rows,
             cursor,
@@ -60,6 +59,8 @@ impl Stimulus {
 }
 
 impl Cabinet for Stimulus {
+    ghost use Rattle.cabinet.specs.Meanings.{stimulus_meaning};
+
     ghost meaning = { stimulus_meaning };
 
     ghost lawful = { Prim.search rules };
@@ -78,11 +79,6 @@ impl Cabinet for Stimulus {
 
     fn advance(&mut self) {
         self.number = self.number.saturating_add(1);
-        self.cursor = apply(
-            self.rows.as_slice(),
-            self.cursor,
-            self.number,
-            &mut self.inputs,
-        );
+        self.cursor += apply(&self.rows[self.cursor..], self.number, &mut self.inputs);
     }
 }

@@ -10,6 +10,7 @@ mod tests {
     use cabinet::ports::{read_inputs, send, terminals};
     use cabinet::row::Row;
     use cabinet::stimulus::Stimulus;
+    use rules::refusal::Rule;
     use std::process::Abort;
     use std::test::Fail;
 
@@ -24,7 +25,7 @@ mod tests {
             assert_eq!(rt; cabinet.input(port), Err(PortFault::PortAboveSeven));
         }
         assert_eq!(rt; terminals(cabinet), [0, 0, 0, 0, 0, 0, 0, 200]);
-        assert_eq!(rt; PortFault::PortAboveSeven.rule().number(), 26);
+        assert_eq!(rt; u8::from(Rule::from(PortFault::PortAboveSeven)), 26);
     }
 
     #[test]

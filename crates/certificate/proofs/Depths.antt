@@ -1,41 +1,20 @@
 -- The greatest depth of a unit's routes, from its table, and that of all units. Assumes nothing.
-use Rattle.std.proofs.Common.{◌≡◌, ℕ, ◌+◌, ◌-◌, ◌<◌, ◌≤◌, ◌⊎◌, List, [], length, get_or, ℤ, pos, ◌≤ℤ◌, Some, None, Option, sym, refl, ap, ◌∙◌, subst, inl, inr, ⊎_elim, arith, lit<}
+use Rattle.std.proofs.Common.{◌≡◌, ℕ, ◌+◌, ◌-◌, ◌<◌, ◌≤◌, ◌⊎◌, List, [], length, get_or, ℤ, pos, ◌≤ℤ◌, Some, None, Option, sym, refl, ap, ◌∙◌, subst, inl, inr, arith, lit<}
 use Rattle.std.proofs.lemmas.Int.{ints}
-use Rattle.std.proofs.lemmas.Bool.{cases_lt}
-use Rattle.rules.specs.declared.unit.UnitId.{UnitId}
-use Rattle.rules.specs.declared.unit.UnitId.TheVariants.{Module, Mechanism}
+use Rattle.rules.specs.Unit.{UnitId, Module, Mechanism}
 use Rattle.rules.specs.Program.{Program, Real, input_module, first}
 use Rattle.rules.specs.Form.{Shaped}
 use Rattle.rules.specs.Route.{at_entry, depth}
 use Rattle.rules.specs.Verdict.{DepthOf}
 use Rattle.theory.proofs.Text.{named}
 use Rattle.walk.proofs.Sound.{Sound, place_low, place_high}
-use Rattle.walk.proofs.Walking.{none_some, some_same}
+use Rattle.walk.proofs.Walking.{some_same}
 use Rattle.measures.specs.Meaning.{Surveyed}
-use Rattle.certificate.specs.Deepest.{Raised, Highest, Within, Deepened, StackOf}
-
--- no place of a table yet
-pub none_yet : (table : List (Option (ℕ × (ℤ × ℤ)))) (n : ℕ) → Highest table 0 n n
-none_yet table n = record { no_less = omega arith; none_above = λ k v h. absurd (omega arith); one_of = inl refl }
+use Rattle.certificate.specs.Deepest.{Highest, Within, Deepened, StackOf}
 
 -- n is a number of cells, or the highest depth at a place of a table
 abbrev OneOf : List (Option (ℕ × (ℤ × ℤ))) → ℕ → ℕ → Type 0
 OneOf table before n = (n ≡ before) ⊎ ((k : ℕ) × (v : ℕ × (ℤ × ℤ)) × (get_or table k None ≡ Some v) × (v.1.1 ≡ pos n))
-
--- one place more
-pub one_more : (table : List (Option (ℕ × (ℤ × ℤ)))) (i before n m : ℕ) (x : Option (ℕ × (ℤ × ℤ))) → get_or table i None ≡ x → Highest table i before n → Raised x n m → Highest table (i + 1) before m
-one_more table i before n m None e h r =
-    subst (λ (z : ℕ). Highest table (i + 1) before z) (sym r)
-    (record {
-      no_less = h.no_less;
-      none_above = λ k v lt s. ⊎_elim (λ earlier. h.none_above k v earlier s) (λ late. let q : k ≡ i = omega arith in absurd (none_some (ap (λ (z : ℕ). get_or table z None) q ∙ e) s)) (cases_lt k i);
-      one_of = h.one_of;
-    })
-one_more table i before n m (Some w) e h r = record {
-  no_less = let a = h.no_less in let b = r.0 in omega arith;
-  none_above = λ k v lt s. ⊎_elim (λ earlier. let top : v.1.1 ≤ℤ pos n = h.none_above k v earlier s in let b = r.0 in omega (arith, ints)) (λ late. let q : k ≡ i = omega arith in let same : w ≡ v = some_same e (ap (λ (z : ℕ). get_or table z None) (sym q) ∙ s) in subst (λ (z : ℕ × (ℤ × ℤ)). z.1.1 ≤ℤ pos m) same r.1) (cases_lt k i);
-  one_of = ⊎_elim (λ q. subst (OneOf table before) (sym q) h.one_of) (λ top. inr (i, w, e, top)) r.2;
-}
 
 -- the depths of a unit's routes are in its table
 pub unit_deepened : (p : Program) (u : UnitId) → Real p u → Sound p u → (bounds : List ℕ) (table : List (Option (ℕ × (ℤ × ℤ)))) (before n : ℕ) → Surveyed p u bounds table → Highest table (length table) before n → Deepened p u before n

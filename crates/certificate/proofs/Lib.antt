@@ -2,5 +2,3 @@ pub mod Moved
 pub mod Depths
 pub mod Scanning
 pub mod Back
-pub mod Counting
-pub mod Each

@@ -1,7 +1,8 @@
 -- The longest scan, from the bounds of its units, which are small. Assumes nothing.
 use Rattle.std.proofs.Common.{◌≡◌, ℕ, ◌+◌, ◌<◌, ◌≤◌, max, refl, subst, inl, inr, arith}
 use Rattle.std.proofs.lemmas.Bool.{cases_lt}
-use Rattle.rules.specs.declared.unit.UnitId.TheVariants.{Module}
+use Rattle.rules.specs.Unit.{Module}
+use Rattle.rules.specs.declared.unit.Module.TheVariants.{BlockInit, BlockDone}
 use Rattle.rules.specs.Program.{Program, input_module, block_init, block_done, main_module}
 use Rattle.rules.specs.Route.{Takes, BlockTakes, ScanTakes, Greatest}
 use Rattle.image.specs.Held.{meant}
@@ -14,9 +15,9 @@ use Rattle.walk.proofs.Givens.{lines_few}
 use Rattle.certificate.specs.Scans.{LongerBlock}
 
 -- a module of a formed program has few steps
-pub few_steps : (f : Formed) (t n : ℕ) → t < 7 → Greatest (Takes (meant f.program) (Module t)) n → n ≤ 2048
+pub few_steps : (f : Formed) (t n : ℕ) → t < 7 → Greatest (Takes (meant f.layout.program) (Module t)) n → n ≤ 2048
 few_steps f t n h g =
-    let p = meant f.program in
+    let p = meant f.layout.program in
     let by = formed_by_rules f in
     let real = named p by.shaped t h in
     let a = takes_bound p by.shaped (orderly p by) t n real g.attained in
@@ -38,13 +39,13 @@ module _ (p : Program) where
   }
 
   -- the module with more steps has as many as the block part
-  pub longer_init : {b c : ℕ} → Greatest (Takes p (Module block_init)) b → Greatest (Takes p (Module block_done)) c → c ≤ b → LongerBlock p block_init
+  pub longer_init : {b c : ℕ} → Greatest (Takes p (Module block_init)) b → Greatest (Takes p (Module block_done)) c → c ≤ b → LongerBlock p BlockInit
   longer_init {b} {c} before behind h = record {
     which = inl refl;
     most = λ n g. (let x = g.none_above b before.attained in let y = before.none_above n g.attained in let e : max b c ≡ n = omega arith in subst (Greatest (BlockTakes p)) e (block_greatest before behind));
   }
 
-  pub longer_done : {b c : ℕ} → Greatest (Takes p (Module block_init)) b → Greatest (Takes p (Module block_done)) c → b < c → LongerBlock p block_done
+  pub longer_done : {b c : ℕ} → Greatest (Takes p (Module block_init)) b → Greatest (Takes p (Module block_done)) c → b < c → LongerBlock p BlockDone
   longer_done {b} {c} before behind h = record {
     which = inr refl;
     most = λ n g. (let x = g.none_above c behind.attained in let y = behind.none_above n g.attained in let e : max b c ≡ n = omega arith in subst (Greatest (BlockTakes p)) e (block_greatest before behind));

@@ -1,8 +1,6 @@
 -- The longest routes: of the mechanisms, as a list of their steps, and of a unit, as it is found by going back. Assumes nothing.
 use Rattle.std.specs.Prelude.{◌≡◌, ℕ, ◌-◌, ◌<◌, Bool, true, false, List, ◌++◌, length, Some, None, Option, slice_index, slice_index_or}
-use Rattle.rules.specs.declared.line.Line.{Line}
-use Rattle.rules.specs.declared.unit.UnitId.{UnitId}
-use Rattle.rules.specs.declared.unit.UnitId.TheVariants.{Mechanism}
+use Rattle.rules.specs.Unit.{UnitId, Mechanism}
 use Rattle.rules.specs.Op.{is_exit}
 use Rattle.rules.specs.Program.{Program, Own, line_at, first}
 use Rattle.rules.specs.Route.{Way, Arrives, Route, Steps, Takes, Greatest}
@@ -35,14 +33,19 @@ pub record GoesPast (p : Program) (u : UnitId) (bounds : List ℕ) (table : List
   pub read : entry_of p u table l ≡ Some value
   pub adds : steps_after bounds l (line_at p l) value ≡ v
 
--- line l, and the steps after it on a longest route to it, where it is an own line
-abbrev pub Past : Program → UnitId → List ℕ → List (Option ℕ) → ℕ → Option (Line × ℕ) → Type 0
-Past p u bounds table l None = Own p u l → ⊥
-Past p u bounds table l (Some r) = (r.0 ≡ line_at p l) × GoesPast p u bounds table r.1 l
+-- the steps after line l on a longest route to it, where it is an own line
+abbrev pub StepsPast : Program → UnitId → List ℕ → List (Option ℕ) → ℕ → Option ℕ → Type 0
+StepsPast p u bounds table l None = Own p u l → ⊥
+StepsPast p u bounds table l (Some v) = GoesPast p u bounds table v l
 
 -- a longest route to line m, with v steps, may come from line l
 abbrev pub Leads : Program → UnitId → List ℕ → List (Option ℕ) → ℕ → ℕ → ℕ → Type 0
 Leads p u bounds table m v l = GoesPast p u bounds table v l × Way p l m
+
+-- the line before place m on a longest route to it; none where that has no step
+abbrev pub Precedes : Program → UnitId → List ℕ → List (Option ℕ) → ℕ → Option ℕ → Type 0
+Precedes p u bounds table m None = LongestAt p u table m 0
+Precedes p u bounds table m (Some l) = (v : ℕ) × LongestAt p u table m v × Leads p u bounds table m v l
 
 -- a longest route with v steps may stop at line l
 abbrev pub Stops : Program → UnitId → List ℕ → List (Option ℕ) → ℕ → ℕ → Type 0
@@ -56,10 +59,15 @@ Counts p u bounds n path = Route p u path × (along 0 (steps_after bounds) p pat
 abbrev pub GoesOn : Program → UnitId → List ℕ → ℕ → List ℕ → ℕ → ℕ → Type 0
 GoesOn p u bounds n lines m v = (path : List ℕ) → Arrives p u path m → along 0 (steps_after bounds) p path ≡ v → Counts p u bounds n (lines ++ path)
 
--- lines that go on from a longest route to m to a whole one are now a whole one
-abbrev pub EndsAs : Program → UnitId → List ℕ → List (Option ℕ) → List ℕ → ℕ → List ℕ → Type 0
-EndsAs p u bounds table lines m path = (n v : ℕ) → entry_of p u table m ≡ Some v → GoesOn p u bounds n lines m v → Counts p u bounds n path
+-- lines, the newest first, that go on from a place where longest routes have no step to a whole route with n steps
+pub record Traced (p : Program) (u : UnitId) (bounds : List ℕ) (table : List (Option ℕ)) (n : ℕ) (lines : List ℕ) : Type 0 where
+  pub from : ℕ
+  pub begins : LongestAt p u table from 0
+  pub goes_on : GoesOn p u bounds n lines from 0
 
 -- a route, the newest line first, that has as many steps as any of its unit
-abbrev pub Longest : Program → UnitId → List ℕ → Type 0
-Longest p u path = (n : ℕ) × Route p u path × Steps p path n × Greatest (Takes p u) n
+pub record Longest (p : Program) (u : UnitId) (path : List ℕ) : Type 0 where
+  pub steps : ℕ
+  pub route : Route p u path
+  pub takes : Steps p path steps
+  pub most : Greatest (Takes p u) steps

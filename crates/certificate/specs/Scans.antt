@@ -1,16 +1,19 @@
 -- The routes of a longest scan. Assumes nothing.
 use Rattle.std.specs.Prelude.{◌≡◌, ℕ, ◌+◌, ◌<◌, ◌⊎◌, List, reverse, length, vec_items, Vec, slice_index_or}
 use Rattle.std.specs.declared.alloc.Global.{Global}
-use Rattle.rules.specs.declared.unit.UnitId.TheVariants.{Module, Mechanism}
-use Rattle.rules.specs.Program.{Program, input_module, block_init, block_done, main_module}
+use Rattle.rules.specs.Unit.{Module, Mechanism}
+use Rattle.rules.specs.declared.unit.Module as named
+use Rattle.rules.specs.declared.unit.Module.TheVariants.{BlockInit, BlockDone}
+use Rattle.rules.specs.Named.{module_number}
+use Rattle.rules.specs.Program.{Program, input_module, main_module}
 use Rattle.rules.specs.Route.{Route, Steps, Takes, BlockTakes, ScanTakes, Greatest}
 use Rattle.certificate.specs.declared.contents.LongestScan.{LongestScan}
 use Rattle.certificate.specs.Longest.{Longest}
 
 -- module m is one of a scan's block part, and its routes have as many steps as that part can have
-pub record LongerBlock (p : Program) (m : ℕ) : Type 0 where
-  pub which : (m ≡ block_init) ⊎ (m ≡ block_done)
-  pub most : (n : ℕ) → Greatest (Takes p (Module m)) n → Greatest (BlockTakes p) n
+pub record LongerBlock (p : Program) (m : named.Module) : Type 0 where
+  pub which : (m ≡ BlockInit) ⊎ (m ≡ BlockDone)
+  pub most : (n : ℕ) → Greatest (Takes p (Module (module_number m))) n → Greatest (BlockTakes p) n
 
 -- a longest route of each mechanism
 pub record MechanismRoutes (p : Program) (routes : List (Vec ℕ Global)) : Type 0 where
@@ -24,8 +27,8 @@ pub record ScanRoutes (p : Program) (s : LongestScan) : Type 0 where
   pub main_steps : ℕ
   pub input_route : Route p (Module input_module) (reverse (vec_items s.input))
   pub input_takes : Steps p (reverse (vec_items s.input)) input_steps
-  pub block_module : (s.block_module ≡ block_init) ⊎ (s.block_module ≡ block_done)
-  pub block_route : Route p (Module s.block_module) (reverse (vec_items s.block))
+  pub block_module : (s.block_module ≡ BlockInit) ⊎ (s.block_module ≡ BlockDone)
+  pub block_route : Route p (Module (module_number s.block_module)) (reverse (vec_items s.block))
   pub block_takes : Steps p (reverse (vec_items s.block)) block_steps
   pub main_route : Route p (Module main_module) (reverse (vec_items s.main))
   pub main_takes : Steps p (reverse (vec_items s.main)) main_steps

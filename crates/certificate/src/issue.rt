@@ -11,12 +11,12 @@ use verdict::accepted::Accepted;
 
 /// The certificate of an accepted program.
 pub fn certificate(program: &Accepted, heap: Global) -> Result<Certificate, AllocError>
-    ensures { IfOk result (λ c. Certified (meant program.now.formed.program) c.lines c.stack c.scan) }
+    ensures { IfOk result (λ c. Certified (meant program.now.formed.layout.program) c.lines c.stack c.scan) }
 {
     let stack = stack_of(&program.formed, heap)?;
     let scan = scan_bound(&program.formed, heap)?;
     Ok(Certificate {
-        lines: program.formed.program.lines.len(),
+        lines: program.formed.layout.program.lines.len(),
         stack,
         scan,
     })

@@ -1,6 +1,7 @@
 // The units that a program is known to have.
 ghost use Rattle.std.specs.Prelude.{◌≡◌};
 ghost use Rattle.rules.specs.Program.{Real};
+ghost use Rattle.rules.specs.Named.{unit_named};
 ghost use Rattle.image.specs.Held.{meant};
 
 use rules::unit::UnitId;
@@ -10,11 +11,8 @@ use walk::units::unit_text;
 
 // A unit that the program has.
 pub fn real_unit(formed: &Formed, id: UnitId) -> UnitText<'_>
-    requires { Real (meant formed.now.program) id }
+    requires { Real (meant formed.now.layout.program) (unit_named id) }
     ensures { (result.formed.now ≡ formed.now) × (result.id ≡ id) }
 {
-    match unit_text(formed, id) {
-        Some(unit) => unit,
-        None => unreachable(),
-    }
+    unit_text(formed, id).unwrap()
 }

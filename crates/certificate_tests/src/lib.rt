@@ -108,7 +108,7 @@ mod tests {
                     Layer::Image => 1,
                     Layer::Text => 2,
                 };
-                Ok([refusal.rule.number() as usize, layer, refusal.place, 0])
+                Ok([usize::from(u8::from(refusal.rule)), layer, refusal.place, 0])
             }
         }
     }

@@ -20,32 +20,14 @@ module _ (place n : Section → ℕ) (end : ℕ) (laid : Laid place n end) where
 
   -- of two sections one comes before the other, unless they are the same
   apart : (s t : Section) → (next s ≤ place t) ⊎ ((s ≡ t) ⊎ (next t ≤ place s))
-  apart data_section data_section = inr (inl refl)
-  apart data_section mechanism_section = inl (omega arith)
-  apart data_section module_section = inl (omega arith)
-  apart data_section line_section = inl (omega arith)
-  apart mechanism_section data_section = inr (inr (omega arith))
-  apart mechanism_section mechanism_section = inr (inl refl)
-  apart mechanism_section module_section = inl (omega arith)
-  apart mechanism_section line_section = inl (omega arith)
-  apart module_section data_section = inr (inr (omega arith))
-  apart module_section mechanism_section = inr (inr (omega arith))
-  apart module_section module_section = inr (inl refl)
-  apart module_section line_section = inl (omega arith)
-  apart line_section data_section = inr (inr (omega arith))
-  apart line_section mechanism_section = inr (inr (omega arith))
-  apart line_section module_section = inr (inr (omega arith))
-  apart line_section line_section = inr (inl refl)
+  apart s t = grind arith
 
   inside : (s : Section) → next s ≤ end
-  inside data_section = omega arith
-  inside mechanism_section = omega arith
-  inside module_section = omega arith
-  inside line_section = omega arith
+  inside s = grind arith
 
   -- another section's count stands outside a section and its count
   outside : (s t : Section) → place s ≤ place t → place t < next s → s ≡ t
-  outside s t low high = elim (apart s t) [ inl h ↦ absurd (omega arith) | inr (inl e) ↦ e | inr (inr h) ↦ absurd (omega arith) ]
+  outside s t low high = grind (arith, apart)
 
 -- HOW FAR AN IMAGE IS CLEAR
 
@@ -84,7 +66,7 @@ module _ (image : List ℕ) where
 
   -- a place in the mechanism section is in no other section, and not at its count
   alone : (s : Section) (l : ℕ) → at mechanism_section + 2 ≤ l → l < at mechanism_section + 2 + size mechanism_section → at s ≤ l → l < at s + 2 + size s → s ≡ mechanism_section
-  alone s l a b c d = elim (lies s mechanism_section) [ inl h ↦ absurd (omega arith) | inr (inl e) ↦ e | inr (inr h) ↦ absurd (omega arith) ]
+  alone s l a b c d = grind (arith, lies)
 
   at_same : {s t : Section} → s ≡ t → at s ≡ at t
   at_same e = ap at e
@@ -136,12 +118,7 @@ module _ (image : List ℕ) where
   }
 
   numbered : (r l : ℕ) → ImageBreaks image r l → 1 ≤ r
-  numbered r l (by_short_count t e q h) = omega arith
-  numbered r l (by_short_section t e q h) = omega arith
-  numbered r l (by_count t e q h) = omega arith
-  numbered r l (by_activation e h q g) = omega arith
-  numbered r l (by_left_over e q h) = omega arith
-  numbered r l (by_total e q h) = omega arith
+  numbered r l b = grind arith
 
   pub refused_short_count : (s : Section) → Clear image (at s) → len < at s + 2 → ImageRefused image 1 (at s)
   refused_short_count s clear short = first_breach 1 (at s) (omega arith) clear (by_short_count s refl refl short) (λ r b. numbered r (at s) b)
@@ -153,12 +130,7 @@ module _ (image : List ℕ) where
   refused_count s clear held out = first_breach 2 (at s) (omega arith) clear (by_count s refl refl out) lowest
     where
       lowest : (r : ℕ) → ImageBreaks image r (at s) → 2 ≤ r
-      lowest r (by_short_count t e q h) = absurd (omega arith)
-      lowest r (by_short_section t e q h) = absurd (elim (lies s t) [ inl x ↦ omega arith | inr (inl x) ↦ (let y = at_same x in omega arith) | inr (inr x) ↦ omega arith ])
-      lowest r (by_count t e q h) = omega arith
-      lowest r (by_activation e h q g) = omega arith
-      lowest r (by_left_over e q h) = omega arith
-      lowest r (by_total e q h) = omega arith
+      lowest r b = grind (arith, lies)
 
   pub refused_activation : (k : ℕ) → k < count image mechanism_section → Clear image (section_place image mechanism_section) → section_place image mechanism_section + 2 * count image mechanism_section ≤ len → BitsHeld image k → 8 * count image data_section ≤ pair_at image (section_place image mechanism_section + 2 * k) → ImageRefused image 3 (section_place image mechanism_section + 2 * k)
   refused_activation k few clear held bits out =
@@ -180,12 +152,7 @@ module _ (image : List ℕ) where
 
   -- an image that is clear up to its end breaks none of the first three rules
   past : image_end image ≤ len → (r l : ℕ) → image_end image ≤ l → ImageBreaks image r l → 4 ≤ r
-  past whole r l far (by_short_count t e q h) = absurd (let x = ends t in omega arith)
-  past whole r l far (by_short_section t e q h) = absurd (let x = ends t in omega arith)
-  past whole r l far (by_count t e q h) = absurd (let x = ends t in omega arith)
-  past whole r l far (by_activation e h q g) = absurd (let x = ends mechanism_section in omega arith)
-  past whole r l far (by_left_over e q h) = omega arith
-  past whole r l far (by_total e q h) = omega arith
+  past whole r l far b = grind (arith, ends)
 
   pub refused_left_over : Clear image (image_end image) → image_end image < len → ImageRefused image 4 (image_end image)
   refused_left_over clear more = first_breach 4 (image_end image) (omega arith) clear (by_left_over refl refl more) (λ r b. past (omega arith) r (image_end image) (omega arith) b)
@@ -195,12 +162,8 @@ module _ (image : List ℕ) where
   unbroken clear whole r l small b = go b
     where
       go : ImageBreaks image r l → ⊥
-      go (by_short_count t e q h) = let x = past (omega arith) r l (clear r l small b) b in omega arith
-      go (by_short_section t e q h) = let x = past (omega arith) r l (clear r l small b) b in omega arith
-      go (by_count t e q h) = let x = past (omega arith) r l (clear r l small b) b in omega arith
-      go (by_activation e h q g) = let x = past (omega arith) r l (clear r l small b) b in omega arith
       go (by_left_over e q h) = omega arith
-      go (by_total e q h) = omega arith
+      go c = let x = past (omega arith) r l (clear r l small b) b in grind arith
 
   pub refused_total : Clear image (image_end image) → len ≡ image_end image → (total (program_of image).lengths ≡ count image line_section → ⊥) → ImageRefused image 5 (at line_section)
   refused_total clear whole wrong = record { broken = by_total refl refl wrong; earliest = λ r l h b. absurd (unbroken clear whole r l h b) }
@@ -209,9 +172,5 @@ module _ (image : List ℕ) where
   sound clear whole right r l b = elim (cases_lt r 5) [ inl h ↦ unbroken clear whole r l h b | inr h ↦ go h b ]
     where
       go : 5 ≤ r → ImageBreaks image r l → ⊥
-      go h (by_short_count t e q x) = omega arith
-      go h (by_short_section t e q x) = omega arith
-      go h (by_count t e q x) = omega arith
-      go h (by_activation e y q x) = omega arith
-      go h (by_left_over e q x) = omega arith
       go h (by_total e q x) = x right
+      go h c = grind arith

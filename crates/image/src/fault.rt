@@ -19,12 +19,12 @@ pub enum ImageFault {
     WrongTotal(usize),
 }
 
-impl ImageFault {
-    /// The refusal by this fault, whole: rule, layer and place.
-    pub fn refusal(self) -> Refusal
-        ensures { result ≡ image_refusal self }
-    {
-        let (rule, place) = match self {
+/// The refusal by a fault of the image, whole: rule, layer and place.
+impl From<ImageFault> for Refusal {
+    ghost from_gives = { λ f r. r ≡ image_refusal f };
+
+    fn from(fault: ImageFault) -> Refusal {
+        let (rule, place) = match fault {
             ImageFault::TooShort(place) => (Rule::TooShort, place),
             ImageFault::CountOutOfRange(place) => (Rule::CountOutOfRange, place),
             ImageFault::ActivationOutside(place) => (Rule::ActivationOutside, place),

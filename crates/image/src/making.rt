@@ -1,17 +1,16 @@
 // Makes the program that an image holds.
 ghost use Rattle.std.specs.Prelude.{◌≡◌, ◌/◌, length, IfOk};
 ghost use Rattle.rules.specs.Number.{Bytes};
-ghost use Rattle.rules.specs.Image.{pairs_from, lines_from, program_of};
+ghost use Rattle.rules.specs.Image.{pairs_from, line_from, lines_from, program_of};
 ghost use Rattle.image.specs.Held.{meant};
-ghost use Rattle.image.specs.Whole.{Reads};
 
 use crate::program::Program;
-use crate::records::pair;
 use crate::sections::Image;
 use rules::line::Line;
 use std::alloc::{AllocError, Global};
 
-// A copy of a part.
+// A copy of a part, whose numbers are bytes.
+// kept: tried without it; in `program` it stayed open that the copied numbers are below 256, since nothing tells that of a field behind a reference.
 fn read_bytes(heap: Global, bytes: &[u8]) -> Result<Vec<u8>, AllocError>
     ensures { IfOk result (λ v. (v.items ≡ bytes.now) × Bytes v.items) }
 {
@@ -22,47 +21,42 @@ fn read_bytes(heap: Global, bytes: &[u8]) -> Result<Vec<u8>, AllocError>
 fn read_pairs(heap: Global, bytes: &[u8]) -> Result<Vec<u16>, AllocError>
     ensures { IfOk result (λ v. v.items ≡ pairs_from bytes.now 0 (length bytes.now / 2)) }
 {
-    let mut pairs = Vec::new(heap);
-    for record in bytes.chunks_exact(2) {
-        let n = pair(record[0], record[1]);
-        pairs.push(n)?;
+    let (records, _) = bytes.as_chunks::<2>();
+    records
+        .iter()
+        .map(|record| u16::from_le_bytes(*record))
+        .collect(heap)
+}
+
+// The line in a record: code, mode and operand.
+fn line_of(bytes: [u8; 4]) -> Line
+    ensures { result ≡ line_from bytes 0 }
+{
+    let [code, mode, lo, hi] = bytes;
+    Line {
+        code,
+        mode,
+        operand: u16::from_le_bytes([lo, hi]),
     }
-    Ok(pairs)
 }
 
 // The lines of a part, four bytes each.
 fn read_lines(heap: Global, bytes: &[u8]) -> Result<Vec<Line>, AllocError>
     ensures { IfOk result (λ v. v.items ≡ lines_from bytes.now 0 (length bytes.now / 4)) }
 {
-    let mut lines = Vec::new(heap);
-    for record in bytes.chunks_exact(4) {
-        let [code, mode, lo, hi] = record else {
-            unreachable()
-        };
-        let operand = pair(*lo, *hi);
-        lines.push(Line {
-            code: *code,
-            mode: *mode,
-            operand,
-        })?;
-    }
-    Ok(lines)
+    let (records, _) = bytes.as_chunks::<4>();
+    records.iter().map(|record| line_of(*record)).collect(heap)
 }
 
 impl Image<'_> {
-    /// The program that the image holds. Serves what `read_image` hands out.
+    /// The program that the image holds.
     pub fn program(&self, heap: Global) -> Result<Program, AllocError>
-        requires { Reads self.now }
         ensures { IfOk result (λ p. meant p ≡ program_of self.now.bytes.now) }
     {
-        let data = self.data.part();
-        let initial = read_bytes(heap, data.bytes)?;
-        let mechanisms = self.mechanisms.part();
-        let activation = read_pairs(heap, mechanisms.bytes)?;
-        let modules = self.modules.part();
-        let lengths = read_pairs(heap, modules.bytes)?;
-        let text = self.lines.part();
-        let lines = read_lines(heap, text.bytes)?;
+        let initial = read_bytes(heap, self.data.bytes)?;
+        let activation = read_pairs(heap, self.mechanisms.bytes)?;
+        let lengths = read_pairs(heap, self.modules.bytes)?;
+        let lines = read_lines(heap, self.lines.bytes)?;
         Ok(Program {
             initial,
             activation,

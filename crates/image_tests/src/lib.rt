@@ -6,6 +6,7 @@
 mod tests {
     use image::reading::read_image;
     use rules::line::Line;
+    use rules::refusal::Refusal;
     use std::alloc::{AllocError, Global};
     use std::test::Fail;
 
@@ -32,42 +33,32 @@ mod tests {
         line: [0; 4],
     };
 
-    fn push_pair(image: &mut Vec<u8>, n: u16) -> Result<(), AllocError> {
-        image.push((n & 0xff) as u8)?;
-        image.push((n >> 8) as u8)?;
-        Ok(())
-    }
-
     fn build(heap: Global, shape: Shape) -> Result<Vec<u8>, AllocError> {
         let mut image = Vec::new(heap);
-        push_pair(&mut image, shape.data)?;
+        image.extend_from_slice(&shape.data.to_le_bytes())?;
         for _ in 0..shape.data {
             image.push(0)?;
         }
-        push_pair(&mut image, shape.mechanisms)?;
+        image.extend_from_slice(&shape.mechanisms.to_le_bytes())?;
         for _ in 0..shape.mechanisms {
-            push_pair(&mut image, shape.bit)?;
+            image.extend_from_slice(&shape.bit.to_le_bytes())?;
         }
-        push_pair(&mut image, shape.modules)?;
+        image.extend_from_slice(&shape.modules.to_le_bytes())?;
         for m in 0..shape.modules {
-            push_pair(&mut image, if m == 0 { shape.length } else { 0 })?;
+            let length: u16 = if m == 0 { shape.length } else { 0 };
+            image.extend_from_slice(&length.to_le_bytes())?;
         }
-        push_pair(&mut image, shape.lines)?;
+        image.extend_from_slice(&shape.lines.to_le_bytes())?;
         for _ in 0..shape.lines {
             image.extend_from_slice(&shape.line)?;
         }
         Ok(image)
     }
 
-    // The number and the place of the refusal; zeros where there is none.
-    fn verdict(image: &[u8]) -> (u8, usize) {
-        match read_image(image) {
-            Ok(_) => (0, 0),
-            Err(fault) => {
-                let refusal = fault.refusal();
-                (refusal.rule.number(), refusal.place)
-            }
-        }
+    // The number and the place of the refusal, where there is one.
+    fn verdict(image: &[u8]) -> Option<(u8, usize)> {
+        let refusal = Refusal::from(read_image(image).err()?);
+        Some((u8::from(refusal.rule), refusal.place))
     }
 
     #[test]
@@ -75,13 +66,13 @@ mod tests {
         let mut image = build(rt.alloc(), NULL)?;
         image.push(0)?;
         let table = [
-            (0, (1, 0)),
-            (1, (1, 0)),
-            (2, (1, 2)),
-            (37, (1, 37)),
-            (38, (1, 37)),
-            (39, (0, 0)),
-            (40, (4, 39)),
+            (0, Some((1, 0))),
+            (1, Some((1, 0))),
+            (2, Some((1, 2))),
+            (37, Some((1, 37))),
+            (38, Some((1, 37))),
+            (39, None),
+            (40, Some((4, 39))),
         ];
         for (n, expected) in table {
             assert!(rt; n <= image.len());
@@ -93,32 +84,32 @@ mod tests {
     #[test]
     fn edges(rt: HostRuntime) -> Result<(), Fail> {
         let table = [
-            (Shape { data: 16, ..NULL }, (2, 0)),
-            (Shape { data: 1024, ..NULL }, (0, 0)),
-            (Shape { data: 1025, ..NULL }, (2, 0)),
+            (Shape { data: 16, ..NULL }, Some((2, 0))),
+            (Shape { data: 1024, ..NULL }, None),
+            (Shape { data: 1025, ..NULL }, Some((2, 0))),
             (
                 Shape {
                     mechanisms: 32,
                     ..NULL
                 },
-                (0, 0),
+                None,
             ),
             (
                 Shape {
                     mechanisms: 33,
                     ..NULL
                 },
-                (2, 19),
+                Some((2, 19)),
             ),
-            (Shape { modules: 6, ..NULL }, (2, 21)),
-            (Shape { modules: 8, ..NULL }, (2, 21)),
+            (Shape { modules: 6, ..NULL }, Some((2, 21))),
+            (Shape { modules: 8, ..NULL }, Some((2, 21))),
             (
                 Shape {
                     lines: 2048,
                     length: 2048,
                     ..NULL
                 },
-                (0, 0),
+                None,
             ),
             (
                 Shape {
@@ -126,7 +117,7 @@ mod tests {
                     length: 2049,
                     ..NULL
                 },
-                (2, 37),
+                Some((2, 37)),
             ),
             (
                 Shape {
@@ -134,7 +125,7 @@ mod tests {
                     bit: 135,
                     ..NULL
                 },
-                (0, 0),
+                None,
             ),
             (
                 Shape {
@@ -142,10 +133,10 @@ mod tests {
                     bit: 136,
                     ..NULL
                 },
-                (3, 21),
+                Some((3, 21)),
             ),
-            (Shape { length: 1, ..NULL }, (5, 37)),
-            (Shape { lines: 1, ..NULL }, (5, 37)),
+            (Shape { length: 1, ..NULL }, Some((5, 37))),
+            (Shape { lines: 1, ..NULL }, Some((5, 37))),
         ];
         for (shape, expected) in table {
             let image = build(rt.alloc(), shape)?;
@@ -168,7 +159,7 @@ mod tests {
         let Ok(parts) = read_image(&image) else {
             return Err(Fail::new("refused"));
         };
-        assert_eq!(rt; parts.lines.part().offset, 41);
+        assert_eq!(rt; parts.lines.offset, 41);
         let program = parts.program(rt.alloc())?;
         assert_eq!(rt; program.initial.len(), 17);
         assert!(rt; program.activation.len() == 1);

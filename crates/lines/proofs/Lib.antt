@@ -1,5 +1,4 @@
 pub mod Masks
-pub mod Comparisons
+pub mod Words
 pub mod Cells
-pub mod WidthLines
 pub mod OtherBits

@@ -1,3 +1,2 @@
 pub mod OneBit
-pub mod Widths
 pub mod Views

@@ -1,6 +1,6 @@
 -- The registers, the turn and the effect of a line as the rules have them. Assumes nothing.
-use Rattle.std.specs.Prelude.{ℕ, Bool, false, cond, List, [], reverse, take, Some, None, Option, ◌==◌}
-use Rattle.rules.specs.Op.{Op, Logic, and, or, xor}
+use Rattle.std.specs.Prelude.{ℕ, Bool, false, List, [], Some, None, Option}
+use Rattle.rules.specs.declared.op.Op.{Op}
 use Rattle.rules.specs.Effect as rules
 use Rattle.rules.specs.Effect.{follows, goes, stops, waits, resumes, enters, skips, resets, Done, keeping, effect}
 use Rattle.lines.specs.declared.registers.Registers.{Registers}
@@ -9,7 +9,7 @@ use Rattle.lines.specs.declared.turn.Turn.TheVariants.{Follows, Goes, Stops, Wai
 
 -- the stacked cells, the newest first
 abbrev pub cells_of : Registers → List Bool
-cells_of r = reverse (take r.depth r.cells)
+cells_of r = r.stack
 
 -- the registers of the rules
 abbrev pub registers_of : Registers → rules.Registers
@@ -33,10 +33,6 @@ done r bytes t = Some (keeping (registers_of r) bytes (turn_of t))
 -- what an operation does that depends on neither the text flag nor the activation bits
 abbrev pub alone : Op → rules.Registers → List ℕ → Option Done
 alone o r bytes = effect false [] o r bytes
-
--- and, or, exclusive or by their codes 2, 3 and 4
-abbrev pub logic_of : ℕ → Logic
-logic_of code = cond (code == 2) and (cond (code == 3) or xor)
 
 -- what a line does, if it names an operation
 abbrev pub line_effect : (flagged : Bool) (activation : List ℕ) → Option Op → rules.Registers → List ℕ → Option Done

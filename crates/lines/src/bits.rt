@@ -3,6 +3,7 @@ ghost use Rattle.std.specs.Prelude.{◌≡◌, ◌*◌, ◌<◌, length};
 ghost use Rattle.rules.specs.Number.{bit, with_bit};
 
 /// The bit at an address.
+#[tactic(auto, using(std::proofs::lemmas::Nat::and_mask))]
 pub fn bit_at(bytes: &[u8], address: u16) -> bool
     requires { address < 8 * length bytes.now }
     ensures { result ≡ bit bytes.now address }
@@ -12,6 +13,7 @@ pub fn bit_at(bytes: &[u8], address: u16) -> bool
 }
 
 /// Gives the bit at an address a value, and leaves every other bit as it is.
+#[tactic(auto, using(crate::proofs::Masks::mask_is, crate::proofs::Masks::or_bit, crate::proofs::Masks::and_bit))]
 pub fn set_bit(bytes: &mut [u8], address: u16, value: bool)
     requires { address < 8 * length bytes.old }
     ensures { bytes.new ≡ with_bit bytes.old address value }

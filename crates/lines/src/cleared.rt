@@ -9,10 +9,5 @@ use crate::registers::Registers;
 pub fn cleared_registers() -> Registers
     ensures { registers_of result ≡ cleared }
 {
-    Registers {
-        rlo: false,
-        dr: 0,
-        cells: [false; 8],
-        depth: 0,
-    }
+    Registers::cleared()
 }

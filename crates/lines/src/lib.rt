@@ -8,6 +8,6 @@ mod effects;
 pub mod laws;
 mod numbers;
 pub mod registers;
-mod stack;
+pub mod stack;
 pub mod step;
 pub mod turn;

@@ -1,12 +1,27 @@
 // What a pass holds besides the memory.
-ghost use Rattle.std.specs.Prelude.{◌≤◌};
+ghost use Rattle.std.specs.Prelude.{◌≡◌};
+ghost use Rattle.rules.specs.Effect.{cleared};
+ghost use Rattle.lines.specs.Views.{registers_of};
 
-/// RLO, DR and the stack, which is the first `depth` cells, the newest last.
-#[derive(Clone, Copy)]
+use crate::stack::Stack;
+
+/// RLO, DR and the stack.
+#[derive(Clone, Drop)]
 pub struct Registers {
     pub rlo: bool,
     pub dr: u32,
-    pub cells: [bool; 8],
-    pub depth: usize,
-    ghost at_most_eight: { depth ≤ 8 },
+    pub stack: Stack,
+}
+
+impl Registers {
+    /// The registers as a unit is entered: RLO and DR 0, and the stack empty.
+    pub fn cleared() -> Registers
+        ensures { registers_of result ≡ cleared }
+    {
+        Registers {
+            rlo: false,
+            dr: 0,
+            stack: Stack::new(),
+        }
+    }
 }

@@ -1,10 +1,12 @@
 -- A run of an accepted program at a line: a rule exists there, and what the line does is a step of the rules. Assumes nothing.
-use Rattle.std.proofs.Common.{◌≡◌, ℕ, ◌+◌, ◌<◌, ◌≤◌, Bool, true, false, cond, eqb, ◌⊎◌, List, length, get_or, Some, None, Option, sym, refl, ap, ◌∙◌, subst, inl, inr, arith, lit<}
+use Rattle.std.proofs.Common.{◌≡◌, ℕ, ◌+◌, ◌<◌, ◌≤◌, Bool, true, false, cond, eqb, ◌⊎◌, List, length, get_or, Some, None, Option, refl, ap, ◌∙◌, subst, inl, inr, arith}
 use Rattle.std.proofs.lemmas.Bool.{eqb-true}
 use Rattle.rules.specs.declared.line.Line.{Line}
-use Rattle.rules.specs.declared.unit.UnitId.{UnitId}
-use Rattle.rules.specs.declared.unit.UnitId.TheVariants.{Module}
-use Rattle.rules.specs.Op.{Op, and, or, xor, ldr, logic, logic_cell, ca, wr, fl, fl1, jl, ex, ex_if, lod, sto, ad, ge, abs, mech_begin, mech_end, mech_init, decode, is_begin}
+use Rattle.rules.specs.Unit.{UnitId, Module}
+use Rattle.rules.specs.declared.op.Op.{Op}
+use Rattle.rules.specs.declared.op.Logic.TheVariants.{And, Or, Xor}
+use Rattle.rules.specs.declared.op.Op.TheVariants.{Ldr, Combine, CombineCell, Ca, Wr, Fl, Fl1, Jl, Ex, ExIf, Lod, Sto, Ad, Ge, Abs, MechBegin, MechEnd, MechInit}
+use Rattle.rules.specs.Op.{decode, is_begin}
 use Rattle.rules.specs.Number.{bit}
 use Rattle.rules.specs.Program.{Program, line_at, op_at, flag_at, after, Own}
 use Rattle.rules.specs.Form.{Reaches}
@@ -15,7 +17,7 @@ use Rattle.theory.specs.Decoded.{Says}
 use Rattle.theory.specs.Standing.{Fitting}
 use Rattle.theory.proofs.Decode.{decode_says}
 use Rattle.theory.proofs.Text.{named}
-use Rattle.theory.proofs.Orderly.{Orderly, orderly, clash}
+use Rattle.theory.proofs.Orderly.{Orderly, orderly}
 use Rattle.theory.proofs.Units.{after_plain}
 use Rattle.theory.proofs.Effects.{Turns, did, from_provided}
 use Rattle.theory.proofs.Stands.{Stands, runs_stand, goes_on}
@@ -25,7 +27,7 @@ use Rattle.lines.specs.declared.turn.Turn as machine
 use Rattle.lines.specs.declared.turn.Turn.TheVariants.{Follows, Goes, Stops, Waits, Resumes, Enters, Skips, Resets}
 use Rattle.lines.specs.Views.{turn_of, line_effect, HasRule}
 use Rattle.machine.specs.Views.{Serves}
-use Rattle.machine.specs.Standing.{standing_at, Here}
+use Rattle.machine.specs.Standing.{standing_at}
 
 -- the effect of a line by the program and by its parts
 effected_is : (p : Program) (l : ℕ) (r : Registers) (m : Memory) (o : Option Op) → effected p l r m o ≡ line_effect (flag_at p l) p.activation o r m.bytes
@@ -54,14 +56,14 @@ module _ (f : Bool) (activation : List ℕ) (r : Registers) (bytes : List ℕ) w
       go (eqb x.mode 0)
       (subst (λ (n : ℕ). line_effect f activation (decode (record { code = n; mode = x.mode; operand = x.operand })) r bytes ≡ Some d) (eqb-true x.code 22 b) e)
     where
-      go : (z : Bool) → line_effect f activation (cond z (Some (mech_begin x.operand)) None) r bytes ≡ Some d → Inward d.turn
+      go : (z : Bool) → line_effect f activation (cond z (Some (MechBegin x.operand)) None) r bytes ≡ Some d → Inward d.turn
       go true h = from_provided (λ (n : Done). Inward n.turn) (bit_in bytes (get_or activation x.operand 0)) _ d h (inward_cond (bit bytes (get_or activation x.operand 0)) x.operand)
-      go false h = clash (Inward d.turn) d (sym h)
+      go false h = cc
 
 -- A RULE AT EACH LINE
 
 carried_ruled : (p : Program) (u : UnitId) (l : ℕ) (m : Memory) (d : Config) (x : Option Done) → carried p u l m x ≡ Some d → HasRule x
-carried_ruled p u l m d None e = clash ⊥ d (sym e)
+carried_ruled p u l m d None e = cc
 carried_ruled p u l m d (Some n) e = tt
 
 step_ruled : (p : Program) (u : UnitId) (l : ℕ) (r : Registers) (m : Memory) (d : Config) → Step p (standing_at u l r m) d → HasRule (line_effect (flag_at p l) p.activation (decode (line_at p l)) r m.bytes)
@@ -69,9 +71,6 @@ step_ruled p u l r m d (step {u = v} {l = k} q o e) =
     let same : k ≡ l = cc q in
     subst (λ (n : ℕ). HasRule (line_effect (flag_at p n) p.activation (decode (line_at p n)) r m.bytes)) same
     (subst HasRule (effected_is p k r m (op_at p k)) (carried_ruled p v k m d (effected p k r m (op_at p k)) e))
-
-not_over : {u : UnitId} {l : ℕ} {b : Bool} → at u l ≡ over b → ⊥
-not_over q = let z : ◌≡◌ {A = ℕ} 0 1 = cc q in omega arith
 
 ord : (p : Program) → Accepted p → Orderly p
 ord p acc = orderly p (formed p acc)
@@ -83,14 +82,14 @@ module _ (p : Program) (acc : Accepted p) (t : ℕ) (small : t < 7) (m₀ : Memo
   pub steps_bounded : (n : ℕ) (c : Config) → Runs p (enter p (Module t) m₀) n c → n ≤ length p.lines
   steps_bounded n c runs = bound p acc.shaped (ord p acc) t n c.place c.registers.cells (named p acc.shaped t small) (stands n c runs).routed
 
-  pub here_at : (n : ℕ) (u : UnitId) (l : ℕ) (r : Registers) (m : Memory) → Runs p (enter p (Module t) m₀) n (standing_at u l r m) → Here p u l r m
-  here_at n u l r m runs =
+  -- the line is one of its unit, and a rule exists
+  pub ready_at : (n : ℕ) (u : UnitId) (l : ℕ) (r : Registers) (m : Memory) → Runs p (enter p (Module t) m₀) n (standing_at u l r m) → Own p u l × HasRule (line_effect (flag_at p l) p.activation (decode (line_at p l)) r m.bytes)
+  ready_at n u l r m runs =
       let s = stands n (standing_at u l r m) runs in
-      let w = s.routed.2 in
-      record { real = w.real; own = w.own; points = s.fitting.points_fit; rule = go (goes_on p acc.shaped (ord p acc) t n (standing_at u l r m) (balanced p acc) s) }
+      (s.routed.2.own, go (goes_on p acc.shaped (ord p acc) t n (standing_at u l r m) (balanced p acc) s))
     where
       go : ((b : Bool) × (at u l ≡ over b)) ⊎ ((d : Config) × Step p (standing_at u l r m) d) → HasRule (line_effect (flag_at p l) p.activation (decode (line_at p l)) r m.bytes)
-      go (inl (b, q)) = absurd (not_over q)
+      go (inl (b, q)) = cc
       go (inr (d, s)) = step_ruled p u l r m d s
 
 -- A LINE EXECUTED
@@ -106,37 +105,31 @@ module _ (p : Program) (acc : Accepted p) where
   pub mechanism_inside : (l : ℕ) → l < length p.lines → 22 ≤ (line_at p l).code → (line_at p l).operand < length p.activation
   mechanism_inside l h high = let q = operation l h in go q.0 q.2 q.3
     where
-      low : {P : Type 0} (n : ℕ) → (line_at p l).code ≡ n → n < 22 → P
-      low n e b = absurd (omega arith)
-
-      inside : (k : ℕ) → (line_at p l).operand ≡ k → k < length p.activation → (line_at p l).operand < length p.activation
-      inside k e b = omega arith
-
       go : (o : Op) → Says (line_at p l) o → Reaches p (line_at p l) (Some o) → (line_at p l).operand < length p.activation
-      go (ldr s a) w b = low 1 w.code_is (lit< tt)
-      go (logic and s a) w b = low 2 w.code_is (lit< tt)
-      go (logic or s a) w b = low 3 w.code_is (lit< tt)
-      go (logic xor s a) w b = low 4 w.code_is (lit< tt)
-      go (logic_cell and) w b = low 2 w.code_is (lit< tt)
-      go (logic_cell or) w b = low 3 w.code_is (lit< tt)
-      go (logic_cell xor) w b = low 4 w.code_is (lit< tt)
-      go ca w b = low 5 w.code_is (lit< tt)
-      go (wr a) w b = low 6 w.code_is (lit< tt)
-      go (fl v a) w b = low 7 w.code_is (lit< tt)
-      go (fl1 v a) w b = low 8 w.code_is (lit< tt)
-      go (jl false a) w b = low 9 w.code_is (lit< tt)
-      go (jl true a) w b = low 10 w.code_is (lit< tt)
-      go ex w b = low 11 w.code_is (lit< tt)
-      go (ex_if false) w b = low 12 w.code_is (lit< tt)
-      go (ex_if true) w b = low 13 w.code_is (lit< tt)
-      go (lod n a) w b = low 16 w.code_is (lit< tt)
-      go (sto n a) w b = low 17 w.code_is (lit< tt)
-      go (ad n a) w b = low 19 w.code_is (lit< tt)
-      go (abs n) w b = low 20 w.code_is (lit< tt)
-      go (ge n a) w b = low 21 w.code_is (lit< tt)
-      go (mech_begin k) w b = inside k w.arg_is b
-      go (mech_end k) w b = inside k w.arg_is b
-      go (mech_init k) w b = inside k w.arg_is b
+      go (Ldr s a) w b = omega arith
+      go (Combine And s a) w b = omega arith
+      go (Combine Or s a) w b = omega arith
+      go (Combine Xor s a) w b = omega arith
+      go (CombineCell And) w b = omega arith
+      go (CombineCell Or) w b = omega arith
+      go (CombineCell Xor) w b = omega arith
+      go Ca w b = omega arith
+      go (Wr a) w b = omega arith
+      go (Fl v a) w b = omega arith
+      go (Fl1 v a) w b = omega arith
+      go (Jl false a) w b = omega arith
+      go (Jl true a) w b = omega arith
+      go Ex w b = omega arith
+      go (ExIf false) w b = omega arith
+      go (ExIf true) w b = omega arith
+      go (Lod n a) w b = omega arith
+      go (Sto n a) w b = omega arith
+      go (Ad n a) w b = omega arith
+      go (Abs n) w b = omega arith
+      go (Ge n a) w b = omega arith
+      go (MechBegin k) w b = omega arith
+      go (MechEnd k) w b = omega arith
+      go (MechInit k) w b = omega arith
 
   -- the turn of a line serves
   pub served : (l : ℕ) → l < length p.lines → (r r' : Registers) (bytes bytes' : List ℕ) (w : machine.Turn) → line_effect (flag_at p l) p.activation (decode (line_at p l)) r bytes ≡ Some (keeping r' bytes' (turn_of w)) → Serves p l w
@@ -163,9 +156,9 @@ module _ (p : Program) (acc : Accepted p) where
       go Stops b q = next (is_begin (line_at p l)) refl b
       go Waits b q = tt
       go Resumes b q = next (is_begin (line_at p l)) refl b
-      go (Enters k) b q = named_by q.0 (mech_begin k) q.2 q.1
-      go (Skips k) b q = named_by q.0 (mech_begin k) q.2 q.1
-      go (Resets k) b q = (named_by q.0 (mech_init k) q.2 q.1, next (is_begin (line_at p l)) refl b)
+      go (Enters k) b q = named_by q.0 (MechBegin k) q.2 q.1
+      go (Skips k) b q = named_by q.0 (MechBegin k) q.2 q.1
+      go (Resets k) b q = (named_by q.0 (MechInit k) q.2 q.1, next (is_begin (line_at p l)) refl b)
 
 -- what a line has done is a step of the rules
 pub stepped : (p : Program) (u : UnitId) (l : ℕ) (r r' : Registers) (m : Memory) (bytes' : List ℕ) (w : Turn) → Own p u l → line_effect (flag_at p l) p.activation (decode (line_at p l)) r m.bytes ≡ Some (keeping r' bytes' w) → Step p (standing_at u l r m) (turned p u l r' (with_bytes m bytes') w)

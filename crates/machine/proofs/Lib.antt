@@ -1,5 +1,6 @@
 pub mod Places
 pub mod Executions
 pub mod Lookups
-pub mod Passing
 pub mod FirstLines
+pub mod Points
+pub mod Passing

@@ -1,10 +1,14 @@
--- The lines that the tables name stand inside the text. Assumes nothing.
-use Rattle.std.proofs.Common.{◌≡◌, ℕ, ◌+◌, ◌<◌, ◌≤◌, Bool, true, false, cond, List, [], ◌∷◌, length, get_or, arith}
-use Rattle.std.proofs.lemmas.List.{get_or_read_under}
+-- The lines that the tables of a formed program name stand inside the text. Assumes nothing.
+use Rattle.std.proofs.Common.{ℕ, ◌+◌, ◌<◌, ◌≤◌, ◌&&◌, Bool, true, false, cond, eqb, List, [], ◌∷◌, length, get_or, vec_items, vec_len, ap, arith}
+use Rattle.std.proofs.lemmas.List.{get_or_default}
 use Rattle.rules.specs.declared.line.Line.{Line}
+use Rattle.rules.specs.Op.{is_begin, is_end}
 use Rattle.rules.specs.Program.{find}
+use Rattle.text.specs.declared.bracket.Bracket.{Bracket}
+use Rattle.text.specs.Tables.{no_bracket}
+use Rattle.text.specs.declared.formed.Formed.{Formed}
 
-pub found_inside : (f : Line → Bool) (xs : List Line) → find f xs ≤ length xs
+found_inside : (f : Line → Bool) (xs : List Line) → find f xs ≤ length xs
 found_inside f [] = omega arith
 found_inside f (x ∷ xs) = go (f x) (found_inside f xs)
   where
@@ -12,9 +16,17 @@ found_inside f (x ∷ xs) = go (f x) (found_inside f xs)
     go true h = omega arith
     go false h = omega arith
 
--- what a table of such lines holds at a place
-pub entry_inside : (table : List ℕ) (i x n : ℕ) (f : Line → Bool) (xs : List Line) → x ≡ get_or table i x → i < n → n ≡ length table → get_or table i 0 ≡ find f xs → x ≤ length xs
-entry_inside table i x n f xs e h l t =
-    let a : x ≡ get_or table i 0 = get_or_read_under table i n x 0 e h l in
-    let b = found_inside f xs in
-    omega arith
+module _ (formed : Formed) (k : ℕ) (d : Bracket) (real : k < vec_len formed.layout.program.activation) where
+  -- a mechanism's MECH_BEGIN
+  pub begin_inside : (get_or (vec_items formed.layout.brackets) k d).begin ≤ length (vec_items formed.layout.program.lines)
+  begin_inside =
+      let e = formed.layout.begins_are k (omega (arith, formed.layout.program.activation.ok.0)) in
+      let h = ap (λ (b : Bracket). b.begin) (get_or_default (vec_items formed.layout.brackets) k d no_bracket (omega (arith, formed.layout.brackets.ok.0, formed.layout.brackets_count))) in
+      omega (arith, found_inside (λ x. is_begin x && eqb x.operand k) (vec_items formed.layout.program.lines))
+
+  -- and its MECH_END
+  pub end_inside : (get_or (vec_items formed.layout.brackets) k d).end ≤ length (vec_items formed.layout.program.lines)
+  end_inside =
+      let e = formed.layout.ends_are k (omega (arith, formed.layout.program.activation.ok.0)) in
+      let h = ap (λ (b : Bracket). b.end) (get_or_default (vec_items formed.layout.brackets) k d no_bracket (omega (arith, formed.layout.brackets.ok.0, formed.layout.brackets_count))) in
+      omega (arith, found_inside (λ x. is_end x && eqb x.operand k) (vec_items formed.layout.program.lines))

@@ -2,35 +2,28 @@
 use Rattle.std.specs.Prelude.{◌≡◌, ℕ, ◌+◌, ◌<◌, length, vec_items, vec_len}
 use Rattle.rules.specs.Program.{Program, after}
 use Rattle.rules.specs.Run as rules
-use Rattle.rules.specs.Run.{Config, at, over}
-use Rattle.rules.specs.declared.unit.UnitId.{UnitId}
-use Rattle.rules.specs.declared.unit.UnitId.TheVariants.{Module, Mechanism}
+use Rattle.rules.specs.Run.{at, over}
+use Rattle.rules.specs.Unit.{UnitId, Module, Mechanism}
 use Rattle.image.specs.Held.{meant}
 use Rattle.verdict.specs.declared.accepted.Accepted.{Accepted}
-use Rattle.lines.specs.declared.registers.Registers.{Registers}
 use Rattle.lines.specs.declared.turn.Turn.{Turn}
 use Rattle.lines.specs.declared.turn.Turn.TheVariants.{Follows, Goes, Stops, Waits, Resumes, Enters, Skips, Resets}
-use Rattle.lines.specs.Views.{registers_of}
 use Rattle.machine.specs.declared.memory.Memory.{Memory}
 use Rattle.machine.specs.declared.place.Place.{Place}
 use Rattle.machine.specs.declared.place.Place.TheVariants.{At, Over}
 
 -- the program of the rules that an accepted program stands for
 abbrev pub program_of : Accepted → Program
-program_of a = meant a.formed.program
+program_of a = meant a.formed.layout.program
 
 -- the memory of the rules
 abbrev pub memory_of : Memory → rules.Memory
 memory_of m = record { bytes = vec_items m.bytes; init_point = m.init_point; done_point = m.done_point; points = vec_items m.points }
 
--- the place of the rules
-abbrev pub place_of : Place → rules.Place
-place_of (At u l) = at u l
-place_of (Over whole) = over whole
-
--- all that a pass holds
-abbrev pub config_of : Place → Registers → Memory → Config
-config_of q r m = record { place = place_of q; registers = registers_of r; memory = memory_of m }
+-- the place of the rules, in the unit that control is in
+abbrev pub place_of : UnitId → Place → rules.Place
+place_of u (At l) = at u l
+place_of u (Over whole) = over whole
 
 -- a memory has the point of a unit: each module's, and a mechanism's that it has one for
 abbrev pub HasPoint : Memory → UnitId → Type 0

@@ -4,8 +4,7 @@
 
 pub mod fresh;
 pub mod memory;
-mod moves;
 pub mod pass;
 mod place;
-mod point;
+mod run;
 mod units;

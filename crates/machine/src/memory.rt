@@ -1,5 +1,7 @@
 // What lasts from call to call of a started program.
 
+use rules::unit::{Module, UnitId};
+
 /// The data bytes, and the points of BLOCK_INIT, of BLOCK_DONE and of the mechanisms.
 #[derive(Drop)]
 pub struct Memory {
@@ -7,4 +9,24 @@ pub struct Memory {
     pub init_point: usize,
     pub done_point: usize,
     pub points: Vec<usize>,
+}
+
+impl Memory {
+    ghost use Rattle.std.specs.Prelude.{◌≡◌};
+    ghost use Rattle.rules.specs.Run.{with_point};
+    ghost use Rattle.rules.specs.Named.{unit_named};
+    ghost use Rattle.machine.specs.Views.{memory_of, HasPoint};
+
+    /// Sets the point of a unit; a unit that is not sequential has none to set.
+    pub(crate) fn set_point(&mut self, unit: UnitId, line: usize)
+        requires { HasPoint self.old (unit_named unit) }
+        ensures { memory_of self.new ≡ with_point (memory_of self.old) (unit_named unit) line }
+    {
+        match unit {
+            UnitId::Module(Module::BlockInit) => self.init_point = line,
+            UnitId::Module(Module::BlockDone) => self.done_point = line,
+            UnitId::Module(_) => {}
+            UnitId::Mechanism(k) => self.points[k] = line,
+        }
+    }
 }

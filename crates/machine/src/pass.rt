@@ -1,71 +1,50 @@
 // A pass of a module, with the mechanisms that MAIN enters.
-ghost use Rattle.std.specs.Prelude.{◌≡◌, ◌<◌, ◌≤◌, true, false, vec_len};
-ghost use Rattle.rules.specs.declared.unit.UnitId.TheVariants.{Module};
+ghost use Rattle.std.specs.Prelude.{◌≡◌, ◌≤◌, true, false, vec_len};
+ghost use Rattle.rules.specs.Unit as unit;
 ghost use Rattle.rules.specs.Program.{sequential};
-ghost use Rattle.rules.specs.Run.{Step, Passes};
-ghost use Rattle.lines.specs.Views.{registers_of};
+ghost use Rattle.rules.specs.Run.{Passes};
+ghost use Rattle.rules.specs.Named.{module_number};
 ghost use Rattle.theory.specs.Standing.{Fitting};
-ghost use Rattle.machine.specs.Views.{program_of, memory_of, config_of};
-ghost use Rattle.machine.specs.Standing.{standing_at, Here};
+ghost use Rattle.machine.specs.Views.{program_of, memory_of};
 
 use crate::memory::Memory;
-use crate::moves::{enter_unit, take_turn};
 use crate::place::Place;
+use crate::run::Run;
 use lines::cleared::cleared_registers;
-use lines::registers::Registers;
-use lines::step::step;
-use rules::unit::UnitId;
+use rules::unit::{Module, UnitId};
 use verdict::accepted::Accepted;
 
 /// What a pass answers: how many lines it executed, and whether it came to the unit's end.
+// kept: the rules say by a truth value whether the end was reached, and each contract above speaks of it; two words would be turned into it there
 #[derive(Clone, Copy)]
 pub struct Passed {
     pub steps: u32,
     pub whole: bool,
 }
 
-// Executes the line where a pass stands, which is one step of the rules.
-fn execute(
-    program: &Accepted,
-    unit: UnitId,
-    line: usize,
-    registers: &mut Registers,
-    memory: &mut Memory,
-) -> Place
-    requires { Here (program_of program.now) unit line (registers_of registers.old) (memory_of memory.old) }
-    ensures { Step (program_of program.now) (standing_at unit line (registers_of registers.old) (memory_of memory.old)) (config_of result registers.new memory.new) }
-{
-    let formed = &program.formed;
-    let text = &formed.program;
-    let turn = step(
-        text.lines[line],
-        formed.flags[line],
-        text.activation.as_slice(),
-        registers,
-        memory.bytes.as_mut_slice(),
-    );
-    take_turn(program, unit, line, turn, registers, memory)
-}
-
 /// Runs a pass of a module from its point until it ends. A pass of MAIN goes into the mechanisms that are active, and back.
-pub fn pass(program: &Accepted, module: usize, memory: &mut Memory) -> Passed
-    requires named { «module» < 7 }
-    requires fitting { Fitting (program_of program.now) (memory_of memory.old) }
-    ensures passes { Passes (program_of program.now) (Module «module») (memory_of memory.old) result.steps result.whole (memory_of memory.new) }
+pub fn pass(program: &Accepted, module: Module, memory: &mut Memory) -> Passed
+    requires { Fitting (program_of program.now) (memory_of memory.old) }
+    ensures passes { Passes (program_of program.now) (unit.Module (module_number «module»)) (memory_of memory.old) result.steps result.whole (memory_of memory.new) }
     ensures fitting { Fitting (program_of program.now) (memory_of memory.new) }
-    ensures bounded { result.steps ≤ vec_len program.now.formed.program.lines }
-    ensures whole { sequential (Module «module») ≡ false → result.whole ≡ true }
+    ensures bounded { result.steps ≤ vec_len program.now.formed.layout.program.lines }
+    ensures whole { sequential (unit.Module (module_number «module»)) ≡ false → result.whole ≡ true }
 {
-    let mut registers = cleared_registers();
-    let mut place = enter_unit(program, UnitId::Module(module), &mut registers, memory);
+    let mut run = Run {
+        program,
+        unit: UnitId::Module(module),
+        registers: cleared_registers(),
+        memory,
+    };
+    let mut place = run.enter();
     let mut steps = 0;
-    loop {
-        match place {
-            Place::Over(whole) => return Passed { steps, whole },
-            Place::At(unit, line) => {
-                place = execute(program, unit, line, &mut registers, memory);
-                steps += 1;
-            }
-        }
+    // kept: the steps are what the pass answers, and no index into anything; an iterator of runs would lend the run to each step
+    while let Place::At(line) = place {
+        place = run.execute(line);
+        steps += 1;
+    }
+    Passed {
+        steps,
+        whole: place == Place::Over(true),
     }
 }

@@ -1,17 +1,11 @@
 // Whether a rule exists for a line, so that it can be tried.
 ghost use Rattle.std.specs.Prelude.{◌≡◌, ◌<◌, ◌≤◌, true, length};
 ghost use Rattle.rules.specs.Op.{decode};
-ghost use Rattle.lines.specs.Widths.{Width};
 ghost use Rattle.lines.specs.Views.{registers_of, line_effect, HasRule};
 
 use lines::registers::Registers;
 use rules::line::Line;
-
-fn is_width(mode: u8) -> bool
-    ensures { result ≡ true → Width mode }
-{
-    mode == 1 || mode == 2 || mode == 4
-}
+use rules::op::Op;
 
 /// Whether a line is known, its operand stands inside the data or names a mechanism, and the stack has room or a cell.
 pub fn has_rule(
@@ -24,24 +18,25 @@ pub fn has_rule(
     ensures rule { result ≡ true → HasRule (line_effect flagged activation.now (decode line) (registers_of registers.now) bytes.now) }
     ensures mechanism { result ≡ true → 22 ≤ line.code → line.operand < length activation.now }
 {
-    let Line {
-        code,
-        mode,
-        operand,
-    } = line;
-    let place = operand as usize;
-    let bit = place / 8 < bytes.len();
-    match code {
-        1 => mode < 2 && bit && (!flagged || registers.depth < 8),
-        2..=4 if mode == 2 => registers.depth > 0,
-        2..=4 | 7..=8 => mode < 2 && bit,
-        5 | 9..=13 => mode == 0,
-        6 => mode == 0 && bit,
-        16..=17 | 19 | 21 => is_width(mode) && place + mode as usize <= bytes.len(),
-        20 => is_width(mode),
-        22..=24 => mode == 0
-            && place < activation.len()
-            && (activation[place] as usize) / 8 < bytes.len(),
-        _ => false,
+    let bit_in = |bit: u16| (bit as usize) / 8 < bytes.len();
+    match line.decode() {
+        None => false,
+        Some(Op::Ldr { bit, .. }) => bit_in(bit) && (!flagged || registers.stack.len() < 8),
+        Some(Op::CombineCell { .. }) => registers.stack.len() > 0,
+        Some(Op::Combine { bit, .. } | Op::Wr { bit } | Op::Fl { bit, .. } | Op::Fl1 { bit, .. }) =>
+            { bit_in(bit) }
+        Some(
+            Op::Lod { width, place }
+            | Op::Sto { width, place }
+            | Op::Ad { width, place }
+            | Op::Ge { width, place },
+        ) => place as usize + width.bytes() <= bytes.len(),
+        Some(Op::Ca | Op::Jl { .. } | Op::Ex | Op::ExIf { .. } | Op::Abs { .. }) => true,
+        Some(
+            Op::MechBegin { mechanism } | Op::MechEnd { mechanism } | Op::MechInit { mechanism },
+        ) => {
+            let mechanism = mechanism as usize;
+            mechanism < activation.len() && bit_in(activation[mechanism])
+        }
     }
 }

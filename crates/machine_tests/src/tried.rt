@@ -4,6 +4,7 @@
 mod tests {
     use crate::ruled::has_rule;
     use lines::registers::Registers;
+    use lines::stack::Stack;
     use lines::step::step;
     use lines::turn::Turn;
     use rules::line::Line;
@@ -52,12 +53,9 @@ mod tests {
         let mut bytes = [
             1, 0, 0, 0, 0, 0, 0, 0, 2, 0, 0, 0, 0, 0, 0, 0, 10, 1, 0, 128u8,
         ];
-        let mut registers = Registers {
-            rlo,
-            dr,
-            cells: [true; 8],
-            depth: 1,
-        };
+        let mut stack = Stack::new();
+        stack.push(true);
+        let mut registers = Registers { rlo, dr, stack };
         if !has_rule(line, true, &activation, &registers, &bytes) {
             return None;
         }
@@ -66,7 +64,7 @@ mod tests {
             turn: turn_number(turn),
             rlo: registers.rlo,
             dr: registers.dr,
-            depth: registers.depth,
+            depth: registers.stack.len(),
             bytes,
         })
     }

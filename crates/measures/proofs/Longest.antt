@@ -1,8 +1,7 @@
 -- A route has the most steps where each of its MECH_BEGIN adds its mechanism's bound. Assumes nothing.
 use Rattle.std.proofs.Common.{◌≡◌, ℕ, suc, ◌+◌, ◌<◌, ◌≤◌, max, Bool, true, false, List, [], ◌∷◌, length, get_or, sym, refl, ap, ◌∙◌, subst, ⊎_elim, arith}
 use Rattle.std.proofs.lemmas.Bool.{cases_lt, both_ways, cond-true, cond-false}
-use Rattle.rules.specs.declared.unit.UnitId.{UnitId}
-use Rattle.rules.specs.declared.unit.UnitId.TheVariants.{Module, Mechanism}
+use Rattle.rules.specs.Unit.{UnitId, Module, Mechanism}
 use Rattle.rules.specs.Op.{is_begin}
 use Rattle.rules.specs.Program.{Program, Own, Real, line_at, main_module}
 use Rattle.rules.specs.Image.{line_section}
@@ -121,7 +120,7 @@ module _ (p : Program) (formed : Formed p) where
         let g = longest a in
         one_more path l (counted path) (few_steps u real a g.attained) o g (is_begin (line_at p l)) refl
 
-    longest_route : {path : List ℕ} → Route p u path → Greatest (Steps p path) (counted path)
+    pub longest_route : {path : List ℕ} → Route p u path → Greatest (Steps p path) (counted path)
     longest_route (to_end a) = longest a
     longest_route (stopped {path} {l} a o e) =
         let g = longest a in

@@ -3,8 +3,9 @@ use Rattle.std.proofs.Common.{◌≡◌, ℕ, suc, ◌<◌, ◌≤◌, Bool, tru
 use lib.Signed.{lt_z}
 use Rattle.std.specs.Int.{int_min, int_max, saturate_to_bits}
 use Rattle.std.proofs.lemmas.Int.{ints, clamps}
-use Rattle.rules.specs.declared.unit.UnitId.{UnitId}
-use Rattle.rules.specs.Op.{LDR, is}
+use Rattle.rules.specs.Unit.{UnitId}
+use Rattle.rules.specs.declared.op.Mnemonic.TheVariants as name
+use Rattle.rules.specs.Op.{is}
 use Rattle.rules.specs.Program.{Program, line_at, pushes, pops}
 use Rattle.rules.specs.Route.{Arrives, at_entry, passed, change, depth}
 use Rattle.text.specs.Tables.{FlagsAre}
@@ -13,6 +14,7 @@ use Rattle.walk.specs.Walked.{along, Brought}
 use Rattle.walk.proofs.Sound.{Sound}
 use Rattle.measures.specs.Models.{change_of, depths_after, wider}
 use Rattle.measures.specs.Meaning.{DepthRange}
+use Rattle.text.specs.declared.marks.Mark.{Mark}
 
 pair : {x y z w : ℤ} → x ≡ y → z ≡ w → ◌≡◌ {A = ℤ × ℤ} (x, z) (y, w)
 pair p q = λ i. (p i, q i)
@@ -55,12 +57,12 @@ highest {S} (both {x} {y} p q) = go (lt_z y.1 x.1) (highest p) (highest q)
     go true a b = a
     go false a b = b
 
-module _ (p : Program) (u : UnitId) (sound : Sound p u) (few : length p.lines ≤ 2048) (flags : List Bool) (flags_are : FlagsAre p flags) where
-  change_is : (l : ℕ) → l < length p.lines → change_of flags l (line_at p l) ≡ change p l
-  change_is l h = ap (λ (f : Bool). cond (is LDR (line_at p l) && f) (pos 1) (cond (pops p l) (negsuc 0) (pos 0))) (flags_are l h)
+module _ (p : Program) (u : UnitId) (sound : Sound p u) (few : length p.lines ≤ 2048) (marks : List Mark) (flags_are : FlagsAre p marks) where
+  change_is : (l : ℕ) → l < length p.lines → change_of marks l (line_at p l) ≡ change p l
+  change_is l h = ap (λ (f : Bool). cond (is name.Ldr (line_at p l) && f) (pos 1) (cond (pops p l) (negsuc 0) (pos 0))) (flags_are l h)
 
   abbrev counted : List ℕ → ℤ × ℤ
-  counted path = along (pos 0, pos 0) (depths_after flags) p path
+  counted path = along (pos 0, pos 0) (depths_after marks) p path
 
   -- along a route both numbers are its depth
   depth_along : {path : List ℕ} {l : ℕ} → Arrives p u path l → counted path ≡ (depth p path, depth p path)
@@ -69,12 +71,12 @@ module _ (p : Program) (u : UnitId) (sound : Sound p u) (few : length p.lines �
       let h = o.within in
       let short = sound.short a in
       let d = depth_small p (l ∷ path) in
-      let whole : saturate_to_bits 31 (depth p path +ℤ change_of flags l (line_at p l)) ≡ depth p path +ℤ change p l =
+      let whole : saturate_to_bits 31 (depth p path +ℤ change_of marks l (line_at p l)) ≡ depth p path +ℤ change p l =
       ap (λ (c : ℤ). saturate_to_bits 31 (depth p path +ℤ c)) (change_is l h) ∙ saturated_small (depth p (l ∷ path)) (suc (length path)) d.0 d.1 (omega arith) in
-      ap (depths_after flags l (line_at p l)) (depth_along a) ∙ pair whole whole
+      ap (depths_after marks l (line_at p l)) (depth_along a) ∙ pair whole whole
 
   -- the join of the depths is the lowest and the highest
-  pub range : (l : ℕ) (v : ℤ × ℤ) → JoinOf wider (Brought (pos 0, pos 0) (depths_after flags) p u l) v → DepthRange p u l v.0 v.1
+  pub range : (l : ℕ) (v : ℤ × ℤ) → JoinOf wider (Brought (pos 0, pos 0) (depths_after marks) p u l) v → DepthRange p u l v.0 v.1
   range l v j = record { none_below = below; none_above = above; low_attained = low (lowest j.built); high_attained = high (highest j.built) }
     where
       least : (a b : ℤ) → int_min a b ≡ b → b ≤ℤ a
@@ -89,8 +91,8 @@ module _ (p : Program) (u : UnitId) (sound : Sound p u) (few : length p.lines �
       above : (path : List ℕ) → Arrives p u path l → depth p path ≤ℤ v.1
       above path a = most (depth p path) v.1 (ap (λ (x : ℤ × ℤ). x.1) (j.takes_in (depth p path, depth p path) (path, a, depth_along a)))
 
-      low : (x : ℤ × ℤ) × Brought (pos 0, pos 0) (depths_after flags) p u l x × (x.0 ≡ v.0) → (path : List ℕ) × Arrives p u path l × (depth p path ≡ v.0)
+      low : (x : ℤ × ℤ) × Brought (pos 0, pos 0) (depths_after marks) p u l x × (x.0 ≡ v.0) → (path : List ℕ) × Arrives p u path l × (depth p path ≡ v.0)
       low (x, (path, a, e), q) = (path, a, ap (λ (y : ℤ × ℤ). y.0) (sym (depth_along a) ∙ e) ∙ q)
 
-      high : (x : ℤ × ℤ) × Brought (pos 0, pos 0) (depths_after flags) p u l x × (x.1 ≡ v.1) → (path : List ℕ) × Arrives p u path l × (depth p path ≡ v.1)
+      high : (x : ℤ × ℤ) × Brought (pos 0, pos 0) (depths_after marks) p u l x × (x.1 ≡ v.1) → (path : List ℕ) × Arrives p u path l × (depth p path ≡ v.1)
       high (x, (path, a, e), q) = (path, a, ap (λ (y : ℤ × ℤ). y.1) (sym (depth_along a) ∙ e) ∙ q)

@@ -1,9 +1,12 @@
 -- The measures: steps, depth, initialised mechanisms, and two carried together. Assumes nothing.
-use Rattle.std.specs.Prelude.{ℕ, ◌+◌, ◌-◌, ◌^◌, min, Bool, false, cond, ◌&&◌, ◌||◌, List, ℤ, pos, negsuc, ◌+ℤ◌, ◌==◌, bit_and, bit_or, nat_lt, slice_index, slice_index_or}
+use Rattle.std.specs.Prelude.{ℕ, ◌+◌, ◌-◌, ◌^◌, min, cond, ◌&&◌, ◌||◌, List, ℤ, pos, negsuc, ◌+ℤ◌, ◌==◌, bit_and, bit_or, nat_lt, slice_index}
 use Rattle.std.specs.Int.{int_min, int_max, saturate_to_bits}
 use Rattle.rules.specs.declared.line.Line.{Line}
-use Rattle.rules.specs.Op.{LDR, LA, LO, LX, is, is_begin, is_init}
+use Rattle.rules.specs.declared.op.Mnemonic.TheVariants as name
+use Rattle.rules.specs.Op.{is, is_begin, is_init}
 use Rattle.measures.specs.declared.mechanism_set.MechanismSet.{MechanismSet}
+use Rattle.text.specs.declared.marks.Mark.{Mark}
+use Rattle.text.specs.Marks.{mark_at}
 
 -- what a line adds to the steps beside itself: the bound of the mechanism that it begins
 abbrev pub bound_of : List ℕ → Line → ℕ
@@ -14,12 +17,12 @@ abbrev pub steps_after : List ℕ → ℕ → Line → ℕ → ℕ
 steps_after bounds l x v = min (v + 1 + bound_of bounds x) (2 ^ 32 - 1)
 
 -- what a line adds to the depth: LDR pushes where the text flag is set, and LA, LO and LX pop at mode 2
-abbrev pub change_of : List Bool → ℕ → Line → ℤ
-change_of flags l x = cond (is LDR x && slice_index_or flags l false) (pos 1) (cond (x.mode == 2 && (is LA x || is LO x || is LX x)) (negsuc 0) (pos 0))
+abbrev pub change_of : List Mark → ℕ → Line → ℤ
+change_of marks l x = cond (is name.Ldr x && (mark_at marks l).flag) (pos 1) (cond (x.mode == 2 && (is name.La x || is name.Lo x || is name.Lx x)) (negsuc 0) (pos 0))
 
 -- the lowest and the highest depth after a line; the sums stop at the ends of their range
-abbrev pub depths_after : List Bool → ℕ → Line → ℤ × ℤ → ℤ × ℤ
-depths_after flags l x v = (saturate_to_bits 31 (v.0 +ℤ change_of flags l x), saturate_to_bits 31 (v.1 +ℤ change_of flags l x))
+abbrev pub depths_after : List Mark → ℕ → Line → ℤ × ℤ → ℤ × ℤ
+depths_after marks l x v = (saturate_to_bits 31 (v.0 +ℤ change_of marks l x), saturate_to_bits 31 (v.1 +ℤ change_of marks l x))
 
 -- the lower of two lowest and the higher of two highest
 abbrev pub wider : ℤ × ℤ → ℤ × ℤ → ℤ × ℤ

@@ -4,6 +4,7 @@ ghost use Rattle.measures.specs.Lawful.{steps_laws};
 ghost use Rattle.measures.specs.Models.{bound_of, steps_after};
 
 use rules::line::Line;
+use rules::op::Mnemonic;
 use walk::measure::Measure;
 
 /// The greatest number of steps: one for each line, and at MECH_BEGIN the bound of its mechanism too.
@@ -17,12 +18,9 @@ impl Steps<'_> {
     fn bound(&self, line: Line) -> u32
         ensures { result ≡ bound_of self.now.bounds.now line }
     {
-        let k = line.operand as usize;
-        if line.code != 22 {
-            return 0;
-        }
-        if k < self.bounds.len() {
-            self.bounds[k]
+        if line.is(Mnemonic::MechBegin) {
+            let k = usize::from(line.operand);
+            self.bounds.get(k).copied().unwrap_or(0)
         } else {
             0
         }

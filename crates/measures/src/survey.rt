@@ -1,7 +1,7 @@
 // What the certificate asks of a unit's routes.
 ghost use Rattle.std.specs.Prelude.{IfOk};
 ghost use Rattle.rules.specs.Route.{Takes, Greatest};
-ghost use Rattle.walk.specs.UnitTexts.{program_of};
+ghost use Rattle.walk.specs.UnitTexts.{program_of, id_of};
 ghost use Rattle.measures.specs.Meaning.{BoundsHold, Surveyed, InitialisedByAll, TellsLeftOut};
 
 use crate::both::Both;
@@ -21,22 +21,21 @@ pub fn survey(
     bounds: &[u32],
     heap: Global,
 ) -> Result<Vec<Option<(u32, (i32, i32))>>, AllocError>
-    ensures { IfOk result (λ t. Surveyed (program_of unit.now) unit.now.id bounds.now t.items) }
+    ensures { IfOk result (λ t. Surveyed (program_of unit.now) (id_of unit.now) bounds.now t.items) }
 {
     let both = Both {
         first: Steps { bounds },
         second: Depth {
-            flags: unit.formed.flags.as_slice(),
+            marks: &unit.formed.layout.marks,
         },
     };
-    let table = walk(&both, unit, heap)?;
-    Ok(table)
+    walk(&both, unit, heap)
 }
 
 /// The unit's bound: the greatest number of steps of its whole routes.
 pub fn unit_bound(unit: &UnitText<'_>, bounds: &[u32], heap: Global) -> Result<u32, AllocError>
-    requires { BoundsHold (program_of unit.now) unit.now.id bounds.now }
-    ensures { IfOk result (λ n. Greatest (Takes (program_of unit.now) unit.now.id) n) }
+    requires { BoundsHold (program_of unit.now) (id_of unit.now) bounds.now }
+    ensures { IfOk result (λ n. Greatest (Takes (program_of unit.now) (id_of unit.now)) n) }
 {
     let steps = Steps { bounds };
     let table = walk(&steps, unit, heap)?;
@@ -45,24 +44,16 @@ pub fn unit_bound(unit: &UnitText<'_>, bounds: &[u32], heap: Global) -> Result<u
 
 /// The mechanisms that every route to the unit's end initialises.
 pub fn initialised_by_all(unit: &UnitText<'_>, heap: Global) -> Result<MechanismSet, AllocError>
-    ensures { IfOk result (λ s. InitialisedByAll (program_of unit.now) unit.now.id s) }
+    ensures { IfOk result (λ s. InitialisedByAll (program_of unit.now) (id_of unit.now) s) }
 {
     let table = walk(&Initialised, unit, heap)?;
-    let Some(set) = table[unit.end - unit.first] else {
-        return Ok(MechanismSet { bits: 0 });
-    };
-    Ok(set)
+    Ok(table[unit.end - unit.first].unwrap())
 }
 
 /// Whether every route to the unit's end initialises every mechanism of the program.
 pub fn initialises_all(unit: &UnitText<'_>, heap: Global) -> Result<bool, AllocError>
-    ensures { IfOk result (λ all. TellsLeftOut (program_of unit.now) unit.now.id all) }
+    ensures { IfOk result (λ all. TellsLeftOut (program_of unit.now) (id_of unit.now) all) }
 {
     let set = initialised_by_all(unit, heap)?;
-    for k in 0..unit.formed.program.activation.len() {
-        if !set.holds(k) {
-            return Ok(false);
-        }
-    }
-    Ok(true)
+    Ok((0..unit.formed.layout.program.activation.len()).all(|k| set.holds(k)))
 }

@@ -1,11 +1,12 @@
 -- The rules of the shape and of the text that need no route: when they are kept, and at which line they are broken. Assumes nothing.
 use Rattle.std.specs.Prelude.{◌≡◌, ℕ, ◌+◌, ◌*◌, ◌<◌, ◌≤◌, true, false, ◌⊎◌, List, length, Some, None, Option, ◌≢◌, slice_index}
 use Rattle.rules.specs.declared.line.Line.{Line}
-use Rattle.rules.specs.Op.{Op, ldr, logic, logic_cell, ca, wr, fl, fl1, jl, ex, ex_if, lod, sto, ad, ge, abs, mech_begin, mech_end, mech_init, is_begin, is_end, is_init, is_jump, is_exit}
+use Rattle.rules.specs.declared.op.Op.{Op}
+use Rattle.rules.specs.declared.op.Op.TheVariants.{Ldr, Combine, CombineCell, Ca, Wr, Fl, Fl1, Jl, Ex, ExIf, Lod, Sto, Ad, Ge, Abs, MechBegin, MechEnd, MechInit}
+use Rattle.rules.specs.Op.{bytes_of, is_begin, is_end, is_init, is_jump, is_exit}
 use Rattle.rules.specs.Number.{Bytes}
 use Rattle.rules.specs.Program.{Program, Own, line_at, op_at, total, module_of, module_end, main_module, init_module, clear_module, open_at, unit_of, end, sequential}
-use Rattle.rules.specs.declared.unit.UnitId.{UnitId}
-use Rattle.rules.specs.declared.unit.UnitId.TheVariants.{Module, Mechanism}
+use Rattle.rules.specs.Unit.{UnitId, Module, Mechanism}
 use Rattle.rules.specs.Image.{Section, data_section, mechanism_section, module_section, line_section, least_count, most_count}
 
 -- how many records a program has in a section
@@ -41,24 +42,24 @@ Unknown p l = (l < length p.lines) × (op_at p l ≡ None)
 -- an operation's operand serves: a bit below 8 × D, a number wholly inside the D bytes, a mechanism below M, and 0 where there is none
 abbrev pub Reaches : Program → Line → Option Op → Type 0
 Reaches p x None = Unit {0}
-Reaches p x (Some (ldr s b)) = b < 8 * length p.initial
-Reaches p x (Some (logic f s b)) = b < 8 * length p.initial
-Reaches p x (Some (logic_cell f)) = x.operand ≡ 0
-Reaches p x (Some ca) = x.operand ≡ 0
-Reaches p x (Some (wr b)) = b < 8 * length p.initial
-Reaches p x (Some (fl v b)) = b < 8 * length p.initial
-Reaches p x (Some (fl1 v b)) = b < 8 * length p.initial
-Reaches p x (Some (jl w t)) = Unit {0}
-Reaches p x (Some ex) = x.operand ≡ 0
-Reaches p x (Some (ex_if w)) = x.operand ≡ 0
-Reaches p x (Some (lod w a)) = a + w ≤ length p.initial
-Reaches p x (Some (sto w a)) = a + w ≤ length p.initial
-Reaches p x (Some (ad w a)) = a + w ≤ length p.initial
-Reaches p x (Some (ge w a)) = a + w ≤ length p.initial
-Reaches p x (Some (abs w)) = x.operand ≡ 0
-Reaches p x (Some (mech_begin k)) = k < length p.activation
-Reaches p x (Some (mech_end k)) = k < length p.activation
-Reaches p x (Some (mech_init k)) = k < length p.activation
+Reaches p x (Some (Ldr s b)) = b < 8 * length p.initial
+Reaches p x (Some (Combine f s b)) = b < 8 * length p.initial
+Reaches p x (Some (CombineCell f)) = x.operand ≡ 0
+Reaches p x (Some Ca) = x.operand ≡ 0
+Reaches p x (Some (Wr b)) = b < 8 * length p.initial
+Reaches p x (Some (Fl v b)) = b < 8 * length p.initial
+Reaches p x (Some (Fl1 v b)) = b < 8 * length p.initial
+Reaches p x (Some (Jl w t)) = Unit {0}
+Reaches p x (Some Ex) = x.operand ≡ 0
+Reaches p x (Some (ExIf w)) = x.operand ≡ 0
+Reaches p x (Some (Lod w a)) = a + bytes_of w ≤ length p.initial
+Reaches p x (Some (Sto w a)) = a + bytes_of w ≤ length p.initial
+Reaches p x (Some (Ad w a)) = a + bytes_of w ≤ length p.initial
+Reaches p x (Some (Ge w a)) = a + bytes_of w ≤ length p.initial
+Reaches p x (Some (Abs w)) = x.operand ≡ 0
+Reaches p x (Some (MechBegin k)) = k < length p.activation
+Reaches p x (Some (MechEnd k)) = k < length p.activation
+Reaches p x (Some (MechInit k)) = k < length p.activation
 
 -- a line whose operand does not serve
 abbrev pub IsBadOperand : Program → ℕ → Type 0

@@ -1,9 +1,10 @@
 -- A program's parts, its units and their lines. Assumes nothing.
 use Rattle.std.specs.Prelude.{◌≡◌, ℕ, ◌+◌, ◌-◌, ◌<◌, Bool, true, false, cond, ◌&&◌, ◌||◌, List, [], ◌∷◌, length, take, replicate, Some, None, Option, ◌==◌, nat_lt, slice_index_or, slice_range}
 use Rattle.rules.specs.declared.line.Line.{Line}
-use Rattle.rules.specs.declared.unit.UnitId.{UnitId}
-use Rattle.rules.specs.declared.unit.UnitId.TheVariants.{Module, Mechanism}
-use Rattle.rules.specs.Op.{Op, LDR, LA, LO, LX, WR, FL1, is, is_begin, is_end, is_jump, is_exit, decode}
+use Rattle.rules.specs.Unit.{UnitId, Module, Mechanism}
+use Rattle.rules.specs.declared.op.Op.{Op}
+use Rattle.rules.specs.declared.op.Mnemonic.TheVariants as name
+use Rattle.rules.specs.Op.{is, is_begin, is_end, is_jump, is_exit, decode}
 
 -- a program: its initial data bytes, the address of each mechanism's activation bit, the number of lines of each module, and the lines
 pub record Program : Type 0 where
@@ -142,12 +143,12 @@ sequential (Mechanism k) = true
 
 -- the lines that clear the text flag: MECH_BEGIN, MECH_END, the jumps, the EX-type lines, WR and FL1
 abbrev pub clears_flag : Line → Bool
-clears_flag x = is_begin x || is_end x || is_jump x || is_exit x || is WR x || is FL1 x
+clears_flag x = is_begin x || is_end x || is_jump x || is_exit x || is name.Wr x || is name.Fl1 x
 
 -- the text flag after some lines: LDR sets it, and the lines above clear it
 abbrev pub flag_after : Bool → List Line → Bool
 flag_after b [] = b
-flag_after b (x ∷ xs) = flag_after (cond (clears_flag x) false (is LDR x || b)) xs
+flag_after b (x ∷ xs) = flag_after (cond (clears_flag x) false (is name.Ldr x || b)) xs
 
 -- the text flag at a line follows the text from the first line of its module, which finds it clear
 abbrev pub flag_at : Program → ℕ → Bool
@@ -155,8 +156,8 @@ flag_at p l = flag_after false (stretch p.lines (module_first p (module_of p.len
 
 -- whether a line pushes: LDR does where the flag is set
 abbrev pub pushes : Program → ℕ → Bool
-pushes p l = is LDR (line_at p l) && flag_at p l
+pushes p l = is name.Ldr (line_at p l) && flag_at p l
 
 -- whether a line pops: LA, LO and LX do at mode 2
 abbrev pub pops : Program → ℕ → Bool
-pops p l = let x = line_at p l in (x.mode == 2) && (is LA x || is LO x || is LX x)
+pops p l = let x = line_at p l in (x.mode == 2) && (is name.La x || is name.Lo x || is name.Lx x)

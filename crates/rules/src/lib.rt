@@ -3,6 +3,7 @@
 #![tactic(auto)]
 
 pub mod line;
+pub mod op;
 pub mod refusal;
 pub mod session;
 pub mod unit;

@@ -2,6 +2,8 @@
 ghost use Rattle.std.specs.Prelude.{◌≡◌};
 ghost use Rattle.rules.specs.Refusal.{rule_number};
 
+use std::fmt;
+
 /// Each rule that a refusal can name.
 #[derive(Clone, Copy, Debug, PartialEq, Eq)]
 pub enum Rule {
@@ -28,12 +30,12 @@ pub enum Rule {
     PortAboveSeven,
 }
 
-impl Rule {
+impl From<Rule> for u8 {
     /// The number by which a rule is known.
-    pub fn number(self) -> u8
-        ensures { result ≡ rule_number self }
-    {
-        match self {
+    ghost from_gives = { λ rule n. n ≡ rule_number rule };
+
+    fn from(rule: Rule) -> u8 {
+        match rule {
             Rule::TooShort => 1,
             Rule::CountOutOfRange => 2,
             Rule::ActivationOutside => 3,
@@ -59,6 +61,15 @@ impl Rule {
 pub enum Layer {
     Image,
     Text,
+}
+
+impl fmt::Display for Layer {
+    fn fmt<W: fmt::Write>(&self, f: &mut fmt::Formatter<W>) -> fmt::Result {
+        f.write_str(match self {
+            Layer::Image => "IMAGE",
+            Layer::Text => "TEXT",
+        })
+    }
 }
 
 /// The refusal of a load, whole: the rule broken, its layer, and the place, which is an offset of the image or a line of the text.

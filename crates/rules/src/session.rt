@@ -17,12 +17,12 @@ pub enum Phase {
     Closing,
 }
 
-impl Phase {
+impl From<Phase> for u8 {
     /// The number by which a phase is known.
-    pub fn number(self) -> u8
-        ensures { result ≡ phase_number self }
-    {
-        match self {
+    ghost from_gives = { λ phase n. n ≡ phase_number phase };
+
+    fn from(phase: Phase) -> u8 {
+        match phase {
             Phase::Idle => 0,
             Phase::Preparing => 1,
             Phase::Moving => 2,

@@ -20,7 +20,7 @@ use Rattle.rules.specs.Session.{Machine, Session, started, called, Outcome, Cabi
 use Rattle.session.specs.declared.call.SessionCall.{SessionCall}
 use Rattle.session.specs.declared.call.SessionCall.TheVariants.{Scan, Clear, BlockStart, PositionReport}
 use Rattle.session.specs.declared.running.Running.{Running}
-use Rattle.session.specs.declared.running.Halted.{Halted}
+use Rattle.session.specs.declared.running.Left.{Left}
 use Rattle.session.specs.Calls.{call_of, last_call}
 use Rattle.session.specs.States.{program_in, machine_in, machine_at_halt}
 use Rattle.session.specs.Called.{Started, Called, HaltedFrom}
@@ -66,21 +66,25 @@ module _ {C : Type 0} (M : Meaning C) (p : Program) (x₀ : C) where
   all_calls : (calls : List SessionCall) (i : ℕ) (done : List (Call × Answer)) (r : Running C) → length calls ≤ i → Going calls i done r → map (λ e. e.0) done ≡ map call_of calls
   all_calls calls i done r h w = w.calls_are ∙ ap (map call_of) (take_all i calls h)
 
+  -- all calls have been made and answered, a halt last if there was to be one, and this is left
+  abbrev pub Ends : List SessionCall → Bool → List (Call × Answer) → Left C → Type 0
+  Ends calls halts done l = (map (λ e. e.0) done ≡ map call_of calls ++ last_call halts) × Session M p x₀ (Done Idle) (reverse done) (machine_at_halt l) l.cabinet
+
   -- how a session ends that is not halted, and one that is
-  pub unhalted_calls : (calls : List SessionCall) (i : ℕ) (done : List (Call × Answer)) (r : Running C) (halts : Bool) → length calls ≤ i → halts ≡ false → Going calls i done r → map (λ e. e.0) done ≡ map call_of calls ++ last_call halts
-  unhalted_calls calls i done r halts h e w = all_calls calls i done r h w ∙ sym (append-nil (map call_of calls)) ∙ ap (λ (b : Bool). map call_of calls ++ last_call b) (sym e)
+  pub unhalted_end : (calls : List SessionCall) (i : ℕ) (done done' : List (Call × Answer)) (r : Running C) (halts : Bool) (l : Left C) → length calls ≤ i → halts ≡ false → done' ≡ done → l ≡ record { cabinet = r.cabinet; memory = r.fitted.memory; phase = r.phase } → Going calls i done r → Ends calls halts done' l
+  unhalted_end calls i done done' r halts l h e q f w = (
+    ap (map (λ e. e.0)) q ∙ all_calls calls i done r h w ∙ sym (append-nil (map call_of calls)) ∙ ap (λ (b : Bool). map call_of calls ++ last_call b) (sym e),
+    subst (λ (d : List (Call × Answer)). Session M p x₀ (Done Idle) (reverse d) (machine_at_halt l) l.cabinet) (sym q)
+        (subst (λ (k : Left C). Session M p x₀ (Done Idle) (reverse done) (machine_at_halt k) k.cabinet) (sym f) w.session),
+  )
 
-  pub halted_calls : (calls : List SessionCall) (i : ℕ) (done done' : List (Call × Answer)) (r : Running C) (halts : Bool) (a : Answer) → length calls ≤ i → halts ≡ true → done' ≡ done ++ (Halt, a) ∷ [] → Going calls i done r → map (λ e. e.0) done' ≡ map call_of calls ++ last_call halts
-  halted_calls calls i done done' r halts a h e q w =
-      ap (map (λ e. e.0)) q ∙ map-append (λ e. e.0) done ((Halt, a) ∷ []) ∙ ap (λ (x : List Call). x ++ Halt ∷ []) (all_calls calls i done r h w) ∙ ap (λ (b : Bool). map call_of calls ++ last_call b) (sym e)
-
-  pub halted_session : (calls : List SessionCall) (i : ℕ) (done done' : List (Call × Answer)) (r : Running C) (h : Halted C) → done' ≡ done ++ (Halt, Done h.phase) ∷ [] → Going calls i done r → HaltedFrom M r h → Session M p x₀ (Done Idle) (reverse done') (machine_at_halt h) h.cabinet
-  halted_session calls i done done' r h q w s =
-      subst (λ (d : List (Call × Answer)). Session M p x₀ (Done Idle) (reverse d) (machine_at_halt h) h.cabinet) (sym q)
-      (further done (machine_in r) (machine_at_halt h) r.cabinet h.cabinet (program_in r) Halt (Done h.phase) w.same_program w.session w.unhalted s.comes s.cabinet_after)
-
-  pub left_session : (calls : List SessionCall) (i : ℕ) (done : List (Call × Answer)) (r : Running C) (machine : Machine) (x : C) → machine ≡ machine_in r → x ≡ r.cabinet → Going calls i done r → Session M p x₀ (Done Idle) (reverse done) machine x
-  left_session calls i done r machine x e f w = subst (λ (y : C). Session M p x₀ (Done Idle) (reverse done) machine y) (sym f) (subst (λ (m : Machine). Session M p x₀ (Done Idle) (reverse done) m r.cabinet) (sym e) w.session)
+  pub halted_end : (calls : List SessionCall) (i : ℕ) (done done' : List (Call × Answer)) (r : Running C) (halts : Bool) (l k : Left C) → length calls ≤ i → halts ≡ true → done' ≡ done ++ (Halt, Done k.phase) ∷ [] → l ≡ k → Going calls i done r → HaltedFrom M r k → Ends calls halts done' l
+  halted_end calls i done done' r halts l k h e q f w s = (
+    ap (map (λ e. e.0)) q ∙ map-append (λ e. e.0) done ((Halt, Done k.phase) ∷ []) ∙ ap (λ (x : List Call). x ++ Halt ∷ []) (all_calls calls i done r h w) ∙ ap (λ (b : Bool). map call_of calls ++ last_call b) (sym e),
+    subst (λ (d : List (Call × Answer)). Session M p x₀ (Done Idle) (reverse d) (machine_at_halt l) l.cabinet) (sym q)
+        (subst (λ (x : Left C). Session M p x₀ (Done Idle) (reverse (done ++ (Halt, Done k.phase) ∷ [])) (machine_at_halt x) x.cabinet) (sym f)
+        (further done (machine_in r) (machine_at_halt k) r.cabinet k.cabinet (program_in r) Halt (Done k.phase) w.same_program w.session w.unhalted s.comes s.cabinet_after)),
+  )
 
 -- THE PROMISE
 

@@ -1,13 +1,13 @@
 -- A memory that fits an accepted program: as its type keeps it and as the rules say it, and the room that it has. Assumes nothing.
 use Rattle.std.proofs.Common.{◌≡◌, ℕ, zero, suc, ◌+◌, ◌≤◌, Bool, true, false, cond, ◌||◌, eqb, ◌⊎◌, vec_len, sym, refl, ap, ◌∙◌, subst, inl, inr, ⊎_elim, arith}
+use denote.Ref.{Bor}
 use Rattle.std.proofs.lemmas.Bool.{cases_eq, eqb-true}
 use Rattle.rules.specs.declared.line.Line.{Line}
-use Rattle.rules.specs.declared.unit.UnitId.{UnitId}
+use Rattle.rules.specs.Unit.{UnitId}
 use Rattle.rules.specs.Op.{is_begin, is_exit}
 use Rattle.rules.specs.Program.{Program, Own, line_at, first, after, end_line}
 use Rattle.rules.specs.Image.{data_section}
 use Rattle.rules.specs.Route.{Entry}
-use Rattle.rules.specs.Run as rules
 use Rattle.rules.specs.Run.{point}
 use Rattle.theory.specs.Standing.{Fitting}
 use Rattle.theory.proofs.Orderly.{sure, owned}
@@ -15,15 +15,9 @@ use Rattle.verdict.proofs.Kept.{accepted}
 use Rattle.verdict.specs.declared.accepted.Accepted.{Accepted}
 use Rattle.machine.specs.Views.{program_of, memory_of}
 use Rattle.machine.specs.declared.memory.Memory.{Memory}
+use Rattle.session.specs.declared.fitted.Fitted.{Fitted}
 use Rattle.session.specs.Points.{PointsStand}
-
--- the data have room for the inputs and the outputs
-pub room : (a : Accepted) (m : Memory) → Fitting (program_of a) (memory_of m) → 17 ≤ vec_len m.bytes
-room a m f =
-    let d = ((accepted a).shaped.counts data_section).0 in
-    let e = f.bytes_fit in
-    let o = m.bytes.ok.0 in
-    omega arith
+use Rattle.session.specs.States.{program_at, memory_at}
 
 exits_begin : (x : Line) (b : Bool) → is_begin x ≡ b → is_exit x ≡ true → b ≡ false
 exits_begin x false e h = refl
@@ -49,19 +43,28 @@ module _ (p : Program) where
         go (suc e) n = past_exit e (owned p u e) (is_exit (line_at p e)) refl n
 
 -- what the type keeps of the memory is that it fits
-pub fits : (a : Accepted) (m : Memory) → vec_len m.bytes ≡ vec_len a.formed.program.initial → vec_len m.points ≡ vec_len a.formed.program.activation → PointsStand (program_of a) (memory_of m) → Fitting (program_of a) (memory_of m)
-fits a m b k s = record {
-  bytes_fit = sym m.bytes.ok.0 ∙ b ∙ a.formed.program.initial.ok.0;
-  points_fit = sym m.points.ok.0 ∙ k ∙ a.formed.program.activation.ok.0;
-  pointed = λ u r q. sure (entry_decided (program_of a) u (point (program_of a) (memory_of m) u)) (s u r q);
+pub fits : (f : Fitted) → Fitting (program_at f) (memory_at f)
+fits f = record {
+  bytes_fit = sym f.memory.bytes.ok.0 ∙ f.bytes_fit ∙ f.program.now.formed.layout.program.initial.ok.0;
+  points_fit = sym f.memory.points.ok.0 ∙ f.points_fit ∙ f.program.now.formed.layout.program.activation.ok.0;
+  pointed = λ u r q. sure (entry_decided (program_at f) u (point (program_at f) (memory_at f) u)) (f.pointed u r q);
 }
 
+-- the data have room for the inputs and the outputs
+pub room : (f : Fitted) → 17 ≤ vec_len f.memory.bytes
+room f =
+    let d = ((accepted f.program.now).shaped.counts data_section).0 in
+    let e = f.bytes_fit in
+    omega (arith, f.program.now.formed.layout.program.initial.ok.0)
+
 -- and a memory that fits is kept so
-pub kept_bytes : (a : Accepted) (m : Memory) → Fitting (program_of a) (memory_of m) → vec_len m.bytes ≡ vec_len a.formed.program.initial
-kept_bytes a m f = m.bytes.ok.0 ∙ f.bytes_fit ∙ sym a.formed.program.initial.ok.0
+pub kept : (a : Accepted) (m : Memory) → Fitting (program_of a) (memory_of m) → record { bytes_fit : vec_len m.bytes ≡ vec_len a.formed.layout.program.initial; points_fit : vec_len m.points ≡ vec_len a.formed.layout.program.activation; pointed : PointsStand (program_of a) (memory_of m) }
+kept a m f = record {
+  bytes_fit = m.bytes.ok.0 ∙ f.bytes_fit ∙ sym a.formed.layout.program.initial.ok.0;
+  points_fit = m.points.ok.0 ∙ f.points_fit ∙ sym a.formed.layout.program.activation.ok.0;
+  pointed = λ u r q n. n (f.pointed u r q);
+}
 
-pub kept_points : (a : Accepted) (m : Memory) → Fitting (program_of a) (memory_of m) → vec_len m.points ≡ vec_len a.formed.program.activation
-kept_points a m f = m.points.ok.0 ∙ f.points_fit ∙ sym a.formed.program.activation.ok.0
-
-pub kept_pointed : (p : Program) (m : rules.Memory) → Fitting p m → PointsStand p m
-kept_pointed p m f u r q n = n (f.pointed u r q)
+-- the same accepted program is the same program
+pub same_program : {a b : Bor Accepted} → a ≡ b → program_of a.now ≡ program_of b.now
+same_program e = ap (λ (x : Bor Accepted). program_of x.now) e

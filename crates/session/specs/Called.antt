@@ -8,7 +8,7 @@ use Rattle.rules.specs.declared.session.Answer.TheVariants.{Done}
 use Rattle.rules.specs.Program.{Program}
 use Rattle.rules.specs.Cabinet.{Meaning, Sent}
 use Rattle.rules.specs.Session.{outputs, Starts, Outcome, CabinetAfter}
-use Rattle.session.specs.declared.running.Halted.{Halted}
+use Rattle.session.specs.declared.running.Left.{Left}
 use Rattle.session.specs.declared.running.Running.{Running}
 use Rattle.session.specs.States.{program_in, machine_in, machine_at_halt}
 
@@ -26,6 +26,6 @@ module _ {C : Type 0} (M : Meaning C) where
     pub cabinet_after : CabinetAfter M c before.cabinet (machine_in after).memory after.cabinet
 
   -- a running program was halted
-  pub record HaltedFrom (before : Running C) (after : Halted C) : Type 0 where
+  pub record HaltedFrom (before : Running C) (after : Left C) : Type 0 where
     pub comes : Outcome (program_in before) (M.inputs before.cabinet) (machine_in before) Halt (Done after.phase) (machine_at_halt after)
     pub cabinet_after : CabinetAfter M Halt before.cabinet (machine_at_halt after).memory after.cabinet

@@ -21,7 +21,7 @@ module _ {C : Type 0} where
 
   -- the data, points and phase that a session left
   abbrev pub machine_left : Conducted C → Machine
-  machine_left t = record { memory = memory_of t.memory; phase = t.phase }
+  machine_left t = record { memory = memory_of t.left.memory; phase = t.left.phase }
 
 module _ {C : Type 0} (M : Meaning C) where
   -- a session so far, with so many of its calls, and all that a certificate guarantees of it there
@@ -38,7 +38,7 @@ module _ {C : Type 0} (M : Meaning C) where
     -- the calls were made in their order
     pub calls_are : map (λ e. e.0) (transcript_of t) ≡ map call_of calls ++ last_call halts
     -- the session is one by the rules: its answers, its data, points and phase, and its cabinet
-    pub session : Session M p x₀ (Done Idle) (reverse (transcript_of t)) (machine_left t) t.cabinet
+    pub session : Session M p x₀ (Done Idle) (reverse (transcript_of t)) (machine_left t) t.left.cabinet
     -- after the start and after each call, so without the last k of them for any k, the session is one by the rules and keeps all that is guaranteed
     pub throughout : (k : ℕ) → Stands p t.certificate.stack t.certificate.scan x₀ (drop k (reverse (transcript_of t)))
     -- and so does every other session of the program on a cabinet of this kind

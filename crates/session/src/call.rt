@@ -13,12 +13,12 @@ pub enum SessionCall {
     PositionReport,
 }
 
-impl SessionCall {
-    /// The call of the rules.
-    pub fn call(self) -> Call
-        ensures { result ≡ call_of self }
-    {
-        match self {
+/// The call of the rules.
+impl From<SessionCall> for Call {
+    ghost from_gives = { λ call made. made ≡ call_of call };
+
+    fn from(call: SessionCall) -> Call {
+        match call {
             SessionCall::Scan => Call::Scan,
             SessionCall::Clear => Call::Clear,
             SessionCall::BlockStart => Call::BlockStart,

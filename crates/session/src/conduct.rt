@@ -1,7 +1,7 @@
 // Whole sessions: a start, any list of calls, and perhaps a halt.
+use crate::running::Left;
 use certificate::contents::Certificate;
-use machine::memory::Memory;
-use rules::session::{Answer, Call, Phase};
+use rules::session::{Answer, Call};
 
 pub mod conducting;
 
@@ -10,7 +10,5 @@ pub mod conducting;
 pub struct Conducted<C> {
     pub certificate: Certificate,
     pub transcript: Vec<(Call, Answer)>,
-    pub cabinet: C,
-    pub memory: Memory,
-    pub phase: Phase,
+    pub left: Left<C>,
 }

@@ -5,6 +5,7 @@
 pub mod answer;
 pub mod call;
 pub mod conduct;
+mod fitted;
 pub mod observer;
 pub mod running;
 mod scanning;

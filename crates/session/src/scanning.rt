@@ -1,95 +1,65 @@
 // What a scan does to a program's memory.
-ghost use Rattle.std.specs.Prelude.{◌≡◌, ◌≤◌, vec_len};
-ghost use Rattle.rules.specs.Session.{after_preparing, after_closing, outputs, with_inputs, BlockPart, Scans};
-ghost use Rattle.rules.specs.Cabinet.{Sent};
-ghost use Rattle.theory.specs.Standing.{Fitting};
-ghost use Rattle.machine.specs.Views.{program_of, memory_of};
+ghost use Rattle.std.specs.Prelude.{◌≡◌, ◌<◌, ◌≤◌, Bool, cond, vec_len};
+ghost use Rattle.rules.specs.Unit as unit;
+ghost use Rattle.rules.specs.Named.{module_number};
+ghost use Rattle.rules.specs.Run.{Passes};
+ghost use Rattle.rules.specs.Session.{with_inputs, BlockPart, Scans};
+ghost use Rattle.session.specs.States.{program_at, memory_at};
 
 use crate::answer::ScanAnswer;
+use crate::fitted::Fitted;
 use cabinet::Cabinet;
-use cabinet::ports::{read_inputs, send};
-use machine::memory::Memory;
-use machine::pass::pass;
+use cabinet::ports::read_inputs;
+use machine::pass::Passed;
 use rules::session::Phase;
-use verdict::accepted::Accepted;
+use rules::unit::Module;
 
-/// The phase after a pass of BLOCK_INIT.
-fn phase_after_preparing(whole: bool) -> Phase
-    ensures { result ≡ after_preparing whole }
-{
-    if whole {
-        Phase::Moving
-    } else {
-        Phase::Preparing
+impl Fitted<'_> {
+    /// A pass of a block module: where it comes to the module's end the next phase follows, and else the phase stays.
+    fn block_pass(&mut self, module: Module, phase: Phase, next: Phase) -> ScanAnswer
+        ensures program { self.new.program ≡ self.old.program }
+        ensures passes { (whole : Bool) × Passes (program_at self.old) (unit.Module (module_number «module»)) (memory_at self.old) result.steps whole (memory_at self.new) × (result.phase ≡ cond whole next phase) }
+        ensures bounded { result.steps ≤ vec_len self.old.program.now.formed.layout.program.lines }
+    {
+        let Passed { steps, whole } = self.pass(module);
+        let phase = if whole { next } else { phase };
+        ScanAnswer { steps, phase }
     }
-}
 
-/// The phase after a pass of BLOCK_DONE.
-fn phase_after_closing(whole: bool) -> Phase
-    ensures { result ≡ after_closing whole }
-{
-    if whole { Phase::Idle } else { Phase::Closing }
-}
-
-/// The block part of a scan, by the phase: BLOCK_INIT, BLOCK_DONE or nothing.
-fn block_part(program: &Accepted, memory: &mut Memory, phase: Phase) -> ScanAnswer
-    requires { Fitting (program_of program.now) (memory_of memory.old) }
-    ensures part { BlockPart (program_of program.now) (memory_of memory.old) result.steps (memory_of memory.new) phase result.phase }
-    ensures fitting { Fitting (program_of program.now) (memory_of memory.new) }
-    ensures bounded { result.steps ≤ vec_len program.now.formed.program.lines }
-{
-    match phase {
-        Phase::Idle | Phase::Moving => ScanAnswer { steps: 0, phase },
-        Phase::Preparing => {
-            let prepared = pass(program, 1, memory);
-            ScanAnswer {
-                steps: prepared.steps,
-                phase: phase_after_preparing(prepared.whole),
-            }
-        }
-        Phase::Closing => {
-            let closed = pass(program, 2, memory);
-            ScanAnswer {
-                steps: closed.steps,
-                phase: phase_after_closing(closed.whole),
-            }
+    /// The block part of a scan, by the phase: BLOCK_INIT, BLOCK_DONE or nothing.
+    fn block_part(&mut self, phase: Phase) -> ScanAnswer
+        ensures program { self.new.program ≡ self.old.program }
+        ensures part { BlockPart (program_at self.old) (memory_at self.old) result.steps (memory_at self.new) phase result.phase }
+        ensures bounded { result.steps ≤ vec_len self.old.program.now.formed.layout.program.lines }
+    {
+        match phase {
+            Phase::Idle | Phase::Moving => ScanAnswer { steps: 0, phase },
+            Phase::Preparing => self.block_pass(Module::BlockInit, Phase::Preparing, Phase::Moving),
+            Phase::Closing => self.block_pass(Module::BlockDone, Phase::Closing, Phase::Idle),
         }
     }
-}
 
-/// Reads the inputs into the data bytes 0 to 7.
-fn take_inputs<C: Cabinet>(cabinet: &C, memory: &mut Memory)
-    requires { 8 ≤ vec_len memory.old.bytes }
-    ensures { memory_of memory.new ≡ with_inputs (memory_of memory.old) (C.Cabinet.meaning.inputs cabinet.now) }
-{
-    read_inputs(cabinet, &mut memory.bytes);
-}
+    /// Reads the inputs into the data bytes 0 to 7.
+    #[tactic(auto, using(crate::proofs::Fits::room))]
+    fn take_inputs<C: Cabinet>(&mut self, cabinet: &C)
+        ensures program { self.new.program ≡ self.old.program }
+        ensures inputs { memory_at self.new ≡ with_inputs (memory_at self.old) (C.Cabinet.meaning.inputs cabinet.now) }
+    {
+        read_inputs(cabinet, &mut self.memory.bytes);
+    }
 
-/// Makes the terminals the outputs, and changes nothing else.
-pub(crate) fn send_outputs<C: Cabinet>(cabinet: &mut C, memory: &Memory)
-    requires { 17 ≤ vec_len memory.now.bytes }
-    ensures { Sent C.Cabinet.meaning cabinet.old (outputs (memory_of memory.now)) cabinet.new }
-{
-    send(cabinet, &memory.bytes);
-}
-
-/// Reads the inputs and runs INPUT, the block part and MAIN.
-pub(crate) fn scan_memory<C: Cabinet>(
-    program: &Accepted,
-    cabinet: &C,
-    memory: &mut Memory,
-    phase: Phase,
-) -> ScanAnswer
-    requires { Fitting (program_of program.now) (memory_of memory.old) }
-    ensures scans { Scans (program_of program.now) (C.Cabinet.meaning.inputs cabinet.now) (record { memory = memory_of memory.old; phase = phase }) result.steps (record { memory = memory_of memory.new; phase = result.phase }) }
-    ensures fitting { Fitting (program_of program.now) (memory_of memory.new) }
-{
-    take_inputs(cabinet, memory);
-    let input = pass(program, 0, memory);
-    let block = block_part(program, memory, phase);
-    let main = pass(program, 3, memory);
-    ScanAnswer {
-        steps: input.steps + block.steps + main.steps,
-        phase: block.phase,
+    /// Reads the inputs and runs INPUT, the block part and MAIN.
+    pub(crate) fn scan<C: Cabinet>(&mut self, cabinet: &C, phase: Phase) -> ScanAnswer
+        ensures program { self.new.program ≡ self.old.program }
+        ensures scans { Scans (program_at self.old) (C.Cabinet.meaning.inputs cabinet.now) (record { memory = memory_at self.old; phase = phase }) result.steps (record { memory = memory_at self.new; phase = result.phase }) }
+    {
+        self.take_inputs(cabinet);
+        let input = self.pass(Module::Input);
+        let block = self.block_part(phase);
+        let main = self.pass(Module::Main);
+        ScanAnswer {
+            steps: input.steps + block.steps + main.steps,
+            phase: block.phase,
+        }
     }
 }

@@ -45,12 +45,12 @@ mod tests {
             let (steps, rule, phase) = match answer {
                 Answer::Scanned { steps, phase } => (steps, 0, phase),
                 Answer::Done { phase } => (0, 0, phase),
-                Answer::Refused { rule, phase } => (0, u32::from(rule.number()), phase),
+                Answer::Refused { rule, phase } => (0, u32::from(u8::from(rule)), phase),
             };
             let _ = self.seen.push(u32::from(terminals[0]));
             let _ = self.seen.push(steps);
             let _ = self.seen.push(rule);
-            let _ = self.seen.push(u32::from(phase.number()));
+            let _ = self.seen.push(u32::from(u8::from(phase)));
         }
     }
 

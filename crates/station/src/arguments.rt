@@ -2,6 +2,10 @@
 use crate::failure::Failure;
 use std::env::Args;
 
+const NO_IMAGE: &str = "an image has to be named";
+
+const ONE_WIRING: &str = "`run` takes one of --rows and --patch, once";
+
 /// Where the inputs of a run come from.
 #[derive(Drop)]
 pub(crate) enum Wiring {
@@ -25,9 +29,8 @@ pub(crate) struct Request {
 #[derive(Drop)]
 pub(crate) enum Command {
     Help,
-    Certify(String),
-    /// an image, and the file for the page
-    CertifyOnPage(String, String),
+    /// an image, and the file for the page if one is asked for
+    Certify { image: String, page: Option<String> },
     Inspect(String),
     Run(Request),
 }
@@ -44,7 +47,7 @@ impl Options {
     /// Takes over where the inputs come from, which may be said once.
     fn wire(&mut self, wiring: Wiring) -> Result<(), Failure> {
         if self.wiring.is_some() {
-            return Err(Failure::Usage("`run` takes one of --rows and --patch, once"));
+            return Err(Failure::Usage(ONE_WIRING));
         }
         self.wiring = Some(wiring);
         Ok(())
@@ -52,29 +55,25 @@ impl Options {
 }
 
 /// The options that are left of the arguments.
-fn options_of(args: Args) -> Result<Options, Failure> {
+fn options_of(mut args: Args) -> Result<Options, Failure> {
     let mut options = Options {
         wiring: None,
         state: false,
         quiet: false,
     };
-    let mut rows_next = false;
-    for word in args {
-        if rows_next {
-            options.wire(Wiring::Rows(word))?;
-            rows_next = false;
-            continue;
-        }
+    while let Some(word) = args.next() {
         match word.as_str() {
-            "--rows" => rows_next = true,
+            "--rows" => {
+                let file = args
+                    .next()
+                    .ok_or(Failure::Usage("a file of rows has to follow --rows"))?;
+                options.wire(Wiring::Rows(file))?;
+            }
             "--patch" => options.wire(Wiring::Patch)?,
             "--state" => options.state = true,
             "--quiet" => options.quiet = true,
             _ => return Err(Failure::Wrong(word, "unknown option")),
         }
-    }
-    if rows_next {
-        return Err(Failure::Usage("a file of rows has to follow --rows"));
     }
     Ok(options)
 }
@@ -89,9 +88,7 @@ fn request_of(mut args: Args) -> Result<Request, Failure> {
         state,
         quiet,
     } = options_of(args)?;
-    let Some(wiring) = wiring else {
-        return Err(Failure::Usage("`run` takes one of --rows and --patch, once"));
-    };
+    let wiring = wiring.ok_or(Failure::Usage(ONE_WIRING))?;
     Ok(Request {
         image,
         calls,
@@ -101,47 +98,51 @@ fn request_of(mut args: Args) -> Result<Request, Failure> {
     })
 }
 
+/// Refuses an argument that is left.
+fn nothing_more(mut args: Args) -> Result<(), Failure> {
+    match args.next() {
+        None => Ok(()),
+        Some(word) => Err(Failure::Wrong(word, "one argument too many")),
+    }
+}
+
 /// The one file that the arguments name.
 fn file_of(mut args: Args) -> Result<String, Failure> {
-    match (args.next(), args.next()) {
-        (Some(file), None) => Ok(file),
-        (None, _) => Err(Failure::Usage("an image has to be named")),
-        (_, Some(word)) => Err(Failure::Wrong(word, "one argument too many")),
-    }
+    let file = args.next().ok_or(Failure::Usage(NO_IMAGE))?;
+    nothing_more(args)?;
+    Ok(file)
 }
 
 /// The certifying that the arguments after `certify` ask for.
 fn certifying(mut args: Args) -> Result<Command, Failure> {
-    let Some(image) = args.next() else {
-        return Err(Failure::Usage("an image has to be named"));
-    };
+    let image = args.next().ok_or(Failure::Usage(NO_IMAGE))?;
     let Some(option) = args.next() else {
-        return Ok(Command::Certify(image));
+        return Ok(Command::Certify { image, page: None });
     };
     if option.as_str() != "--html" {
         return Err(Failure::Wrong(option, "unknown option"));
     }
-    match (args.next(), args.next()) {
-        (Some(page), None) => Ok(Command::CertifyOnPage(image, page)),
-        (None, _) => Err(Failure::Usage("a file for the page has to follow --html")),
-        (_, Some(word)) => Err(Failure::Wrong(word, "one argument too many")),
-    }
+    let page = args
+        .next()
+        .ok_or(Failure::Usage("a file for the page has to follow --html"))?;
+    nothing_more(args)?;
+    Ok(Command::Certify {
+        image,
+        page: Some(page),
+    })
 }
 
 /// The command of the arguments, the first of which is the program's own name.
 pub(crate) fn command_of(mut args: Args) -> Result<Command, Failure> {
-    let _ = args.next();
-    let Some(verb) = args.next() else {
-        return Err(Failure::Usage("nothing is asked for"));
-    };
+    let verb = args.nth(1).ok_or(Failure::Usage("nothing is asked for"))?;
     match verb.as_str() {
         "certify" => certifying(args),
         "inspect" => Ok(Command::Inspect(file_of(args)?)),
         "run" => Ok(Command::Run(request_of(args)?)),
-        "help" => match args.next() {
-            None => Ok(Command::Help),
-            Some(word) => Err(Failure::Wrong(word, "one argument too many")),
-        },
+        "help" => {
+            nothing_more(args)?;
+            Ok(Command::Help)
+        }
         _ => Err(Failure::Wrong(verb, "the station has no such command")),
     }
 }

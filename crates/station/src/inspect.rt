@@ -1,68 +1,60 @@
 // What an image holds, section by section and line by line.
 use crate::failure::Failure;
 use crate::files::read_bytes;
-use crate::listing::{write_line, write_unit};
+use crate::listing::{Instruction, UnitName};
 use crate::sections::write_sections;
-use crate::surveys::{Survey, mark_longest, survey_all};
+use crate::surveys::{Survey, SurveyedText};
 use image::reading::read_image;
 use rules::line::Line;
 use rules::refusal::Refusal;
-use std::alloc::Global;
-use std::io;
+use std::alloc::{AllocError, Global};
+use std::fmt::{Display, Formatter};
 use std::io::{BufWriter, Write};
+use std::{fmt, io};
 use text::fault::CheckFault;
 use text::formed::Formed;
 use text::forming::form;
 use verdict::place::accept;
 
-/// Writes what is known of a line: the depth, the greatest number of steps with which a route comes there, and a star on a longest scan.
-fn write_survey<W: Write>(out: &mut W, survey: Option<Survey>) -> io::Result<()> {
-    let Some(
-        Survey {
-            steps,
-            low,
-            high,
-            longest,
-        },
-    ) = survey
-    else {
-        return write!(out, "    -     -  ");
-    };
-    if low == high {
-        write!(out, "{low:>5}")?;
-    } else {
-        write!(out, "{low:>2}..{high}")?;
+/// What is known of a line: the depth, the greatest number of steps with which a route comes there, and a star on a longest scan.
+#[derive(Clone, Copy)]
+struct Known(Option<Survey>);
+
+impl Display for Known {
+    fn fmt<W: fmt::Write>(&self, f: &mut Formatter<W>) -> fmt::Result {
+        let Some(
+            Survey {
+                steps,
+                low,
+                high,
+                longest,
+            },
+        ) = self.0
+        else {
+            return write!(f, "    -     -  ");
+        };
+        if low == high {
+            write!(f, "{low:>5}")?;
+        } else {
+            write!(f, "{low:>2}..{high}")?;
+        }
+        let star = if longest { '*' } else { ' ' };
+        write!(f, " {steps:>5} {star}")
     }
-    let star = if longest { "*" } else { " " };
-    write!(out, " {steps:>5} {star}")
 }
 
 /// Writes each line of a formed program: its number, its unit, the text flag at it, what its routes bring, and the line.
-fn write_text<W: Write>(
-    out: &mut W,
-    formed: &Formed,
-    surveys: &[Option<Survey>],
-) -> io::Result<()> {
+fn write_text<W: Write>(out: &mut W, text: &SurveyedText) -> io::Result<()> {
     writeln!(
         out,
         "text: line, unit, text flag, depth, greatest steps before it, * on a longest scan, instruction"
     )?;
-    for (number, survey) in surveys.iter().enumerate() {
-        let (Some(unit), Some(flag), Some(line)) = (
-            formed.unit_of(number),
-            formed.flag_at(number),
-            formed.line(number),
-        ) else {
-            continue;
-        };
-        let flag = u8::from(flag);
-        write!(out, "{number:>6}  ")?;
-        write_unit(out, unit)?;
-        write!(out, "  {flag} ")?;
-        write_survey(out, *survey)?;
-        write!(out, " ")?;
-        write_line(out, line)?;
-        writeln!(out, "")?;
+    for (number, line) in text.lines.iter().enumerate() {
+        let unit = UnitName(line.unit);
+        let flag = u8::from(line.flag);
+        let known = Known(line.survey);
+        let instruction = Instruction(line.line);
+        writeln!(out, "{number:>6}  {unit}  {flag} {known} {instruction}")?;
     }
     Ok(())
 }
@@ -71,9 +63,8 @@ fn write_text<W: Write>(
 fn write_raw_text<W: Write>(out: &mut W, lines: &[Line]) -> io::Result<()> {
     writeln!(out, "text: line, instruction")?;
     for (number, line) in lines.iter().enumerate() {
-        write!(out, "{number:>6}  ")?;
-        write_line(out, *line)?;
-        writeln!(out, "")?;
+        let instruction = Instruction(*line);
+        writeln!(out, "{number:>6}  {instruction}")?;
     }
     Ok(())
 }
@@ -82,29 +73,21 @@ fn write_raw_text<W: Write>(out: &mut W, lines: &[Line]) -> io::Result<()> {
 pub(crate) fn inspect(rt: &HostRuntime, file: String) -> Result<(), Failure> {
     let heap = rt.alloc();
     let bytes = read_bytes(rt, file)?;
-    let image = match read_image(bytes.as_slice()) {
-        Ok(image) => image,
-        Err(fault) => return Err(Failure::Refused(fault.refusal())),
-    };
+    let image = read_image(bytes.as_slice())?;
     let mut out = BufWriter::new(heap, rt.stdout())?;
     write_sections(&mut out, &image)?;
-    let program = image.program(heap)?;
-    match form(heap, program) {
-        Ok(formed) => {
-            let refusal = show_formed(heap, &mut out, &formed, bytes.as_slice())?;
-            out.flush()?;
-            match refusal {
-                Some(refusal) => Err(Failure::Refused(refusal)),
-                None => Ok(()),
-            }
-        }
-        Err(CheckFault::Memory) => Err(Failure::Memory),
+    let refusal = match form(heap, image.program(heap)?) {
+        Ok(formed) => show_formed(heap, &mut out, &formed, bytes.as_slice())?,
         Err(CheckFault::Text(fault)) => {
-            let refused = image.program(heap)?;
-            write_raw_text(&mut out, refused.lines.as_slice())?;
-            out.flush()?;
-            Err(Failure::Refused(fault.refusal()))
+            write_raw_text(&mut out, image.program(heap)?.lines.as_slice())?;
+            Some(Refusal::from(fault))
         }
+        Err(CheckFault::Memory) => return Err(Failure::Memory(AllocError)),
+    };
+    out.flush()?;
+    match refusal {
+        Some(refusal) => Err(Failure::from(refusal)),
+        None => Ok(()),
     }
 }
 
@@ -115,14 +98,14 @@ fn show_formed<W: Write>(
     formed: &Formed,
     image: &[u8],
 ) -> Result<Option<Refusal>, Failure> {
-    let mut surveys = survey_all(heap, formed)?;
+    let mut text = SurveyedText::of(heap, formed)?;
     let refusal = match accept(heap, image) {
         Ok(program) => {
-            mark_longest(heap, &program, &mut surveys)?;
+            text.mark_longest(heap, &program)?;
             None
         }
         Err(fault) => fault.refusal(),
     };
-    write_text(out, formed, surveys.as_slice())?;
+    write_text(out, &text)?;
     Ok(refusal)
 }

@@ -1,82 +1,56 @@
 // Lines as a person reads them.
 use rules::line::Line;
+use rules::op::Mnemonic::{
+    Abs, Ad, Ca, Ex, Ex0, Ex1, Fl, Fl1, Ge, Jl0, Jl1, La, Ldr, Lo, Lod, Lx, MechBegin, MechEnd,
+    MechInit, Sto, Wr,
+};
 use rules::unit::UnitId;
-use std::io;
-use std::io::Write;
+use std::fmt;
+use std::fmt::{Display, Formatter};
 
-/// The name of a module, by its number.
-pub(crate) fn module_name(module: usize) -> &'static str {
-    match module {
-        0 => "INPUT",
-        1 => "BLOCK_INIT",
-        2 => "BLOCK_DONE",
-        3 => "MAIN",
-        4 => "INIT",
-        5 => "CLEAR",
-        6 => "HALT",
-        _ => "?",
-    }
-}
+/// A line as its name, with its operand as place and bit, as place and width, or as a number.
+#[derive(Clone, Copy)]
+pub(crate) struct Instruction(pub(crate) Line);
 
-/// The name of a line, by its code.
-fn mnemonic(code: u8) -> &'static str {
-    match code {
-        1 => "LDR",
-        2 => "LA",
-        3 => "LO",
-        4 => "LX",
-        5 => "CA",
-        6 => "WR",
-        7 => "FL",
-        8 => "FL1",
-        9 => "JL0",
-        10 => "JL1",
-        11 => "EX",
-        12 => "EX0",
-        13 => "EX1",
-        16 => "LOD",
-        17 => "STO",
-        19 => "AD",
-        20 => "ABS",
-        21 => "GE",
-        22 => "MECH_BEGIN",
-        23 => "MECH_END",
-        24 => "MECH_INIT",
-        _ => "?",
-    }
-}
-
-/// Writes a line: its name, and its operand as place and bit, as place and width, or as a number.
-pub(crate) fn write_line<W: Write>(out: &mut W, line: Line) -> io::Result<()> {
-    let name = mnemonic(line.code);
-    let Line {
-        code,
-        mode,
-        operand,
-    } = line;
-    let place = operand / 8;
-    let bit = operand % 8;
-    match code {
-        1..=4 if mode == 0 => write!(out, "{name} {place}.{bit}"),
-        1..=4 if mode == 1 => write!(out, "{name} -{place}.{bit}"),
-        2..=4 if mode == 2 => write!(out, "{name}"),
-        6 => write!(out, "{name} {place}.{bit}"),
-        7..=8 => write!(out, "{name} {mode},{place}.{bit}"),
-        5 | 11..=13 => write!(out, "{name}"),
-        9..=10 | 22..=24 => write!(out, "{name} {operand}"),
-        16..=17 | 19 | 21 => write!(out, "{name} {operand} width {mode}"),
-        20 => write!(out, "{name} width {mode}"),
-        _ => write!(out, "? code {code} mode {mode} operand {operand}"),
-    }
-}
-
-/// Writes a unit: a module by its name, a mechanism by its number.
-pub(crate) fn write_unit<W: Write>(out: &mut W, unit: UnitId) -> io::Result<()> {
-    match unit {
-        UnitId::Module(module) => {
-            let name = module_name(module);
-            write!(out, "{name:<12}")
+impl Display for Instruction {
+    fn fmt<W: fmt::Write>(&self, f: &mut Formatter<W>) -> fmt::Result {
+        let Line {
+            code,
+            mode,
+            operand,
+        } = self.0;
+        let place = operand / 8;
+        let bit = operand % 8;
+        match (self.0.mnemonic(), mode) {
+            (Some(name @ (Ldr | La | Lo | Lx)), 0) | (Some(name @ Wr), _) => {
+                write!(f, "{name} {place}.{bit}")
+            }
+            (Some(name @ (Ldr | La | Lo | Lx)), 1) => write!(f, "{name} -{place}.{bit}"),
+            (Some(name @ (La | Lo | Lx)), 2) | (Some(name @ (Ca | Ex | Ex0 | Ex1)), _) => {
+                write!(f, "{name}")
+            }
+            (Some(name @ (Fl | Fl1)), _) => write!(f, "{name} {mode},{place}.{bit}"),
+            (Some(name @ (Jl0 | Jl1 | MechBegin | MechEnd | MechInit)), _) => {
+                write!(f, "{name} {operand}")
+            }
+            (Some(name @ (Lod | Sto | Ad | Ge)), _) => write!(f, "{name} {operand} width {mode}"),
+            (Some(name @ Abs), _) => write!(f, "{name} width {mode}"),
+            (None | Some(Ldr | La | Lo | Lx), _) => {
+                write!(f, "? code {code} mode {mode} operand {operand}")
+            }
         }
-        UnitId::Mechanism(mechanism) => write!(out, "mechanism {mechanism:<2}"),
+    }
+}
+
+/// A unit as the name of its module or the number of its mechanism, padded to 12 places.
+#[derive(Clone, Copy)]
+pub(crate) struct UnitName(pub(crate) UnitId);
+
+impl Display for UnitName {
+    fn fmt<W: fmt::Write>(&self, f: &mut Formatter<W>) -> fmt::Result {
+        match self.0 {
+            UnitId::Module(module) => write!(f, "{module:<12}"),
+            UnitId::Mechanism(mechanism) => write!(f, "mechanism {mechanism:<2}"),
+        }
     }
 }

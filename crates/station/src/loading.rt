@@ -8,11 +8,6 @@ pub(crate) fn load(rt: &HostRuntime, file: String) -> Result<Place, Failure> {
     let heap = rt.alloc();
     let bytes = read_bytes(rt, file)?;
     let mut place = Place::new(heap)?;
-    match place.load(heap, bytes.as_slice()) {
-        Ok(()) => Ok(place),
-        Err(fault) => match fault.refusal() {
-            Some(refusal) => Err(Failure::Refused(refusal)),
-            None => Err(Failure::Memory),
-        },
-    }
+    place.load(heap, bytes.as_slice())?;
+    Ok(place)
 }

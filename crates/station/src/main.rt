@@ -48,8 +48,7 @@ fn run(rt: &HostRuntime) -> Result<(), Failure> {
             rt.print(HELP)?;
             Ok(())
         }
-        Command::Certify(image) => certify::certify(rt, image),
-        Command::CertifyOnPage(image, page) => certify::certify_on_page(rt, image, page),
+        Command::Certify { image, page } => certify::certify(rt, image, page),
         Command::Inspect(image) => inspect::inspect(rt, image),
         Command::Run(request) => conduct::run_session(rt, request),
     }

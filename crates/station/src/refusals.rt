@@ -1,9 +1,10 @@
 // Refusals as a person reads them.
-use rules::refusal::{Layer, Refusal, Rule};
-use std::io;
-use std::io::Write;
+use rules::refusal::{Refusal, Rule};
+use std::fmt;
+use std::fmt::{Display, Formatter};
 
 /// What a rule asks, or how it is broken, in one sentence.
+// kept: no plainer, as the texts of another crate's enum, asked for in one place
 fn sentence(rule: Rule) -> &'static str {
     match rule {
         Rule::TooShort =>
@@ -35,20 +36,15 @@ fn sentence(rule: Rule) -> &'static str {
     }
 }
 
-/// The name of a layer.
-fn layer_name(layer: Layer) -> &'static str {
-    match layer {
-        Layer::Image => "IMAGE",
-        Layer::Text => "TEXT",
-    }
-}
+/// A refusal with the sentence for its rule.
+#[derive(Clone, Copy, Debug)]
+pub(crate) struct Explained(pub(crate) Refusal);
 
-/// Writes a refusal, whole, and the sentence for its rule.
-pub(crate) fn write_refusal<W: Write>(out: &mut W, refusal: Refusal) -> io::Result<()> {
-    let Refusal { rule, layer, place } = refusal;
-    let number = rule.number();
-    let layer = layer_name(layer);
-    let why = sentence(rule);
-    writeln!(out, "REFUSED {number} {layer} {place}")?;
-    writeln!(out, "{why}")
+impl Display for Explained {
+    fn fmt<W: fmt::Write>(&self, f: &mut Formatter<W>) -> fmt::Result {
+        let Explained(Refusal { rule, layer, place }) = *self;
+        let number = u8::from(rule);
+        let why = sentence(rule);
+        write!(f, "REFUSED {number} {layer} {place}\n{why}")
+    }
 }

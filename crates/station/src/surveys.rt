@@ -2,10 +2,12 @@
 use certificate::bounds::mechanism_bounds;
 use certificate::scan::longest_scan;
 use measures::survey::survey;
-use rules::unit::UnitId;
+use rules::line::Line;
+use rules::unit::{Module, UnitId};
 use std::alloc::{AllocError, Global};
 use text::formed::Formed;
 use verdict::accepted::Accepted;
+use walk::unit_text::UnitText;
 use walk::units::unit_text;
 
 /// What is known of a line: the greatest number of steps and the lowest and the highest depth with which a route comes there, and whether
@@ -18,90 +20,101 @@ pub(crate) struct Survey {
     pub(crate) longest: bool,
 }
 
-/// A place for each line, with nothing known of it.
-fn blank(heap: Global, lines: usize) -> Result<Vec<Option<Survey>>, AllocError> {
-    let mut surveys = Vec::new(heap);
-    for _ in 0..lines {
-        surveys.push(None)?;
-    }
-    Ok(surveys)
+/// A line of a formed program with its unit, the text flag at it, and what is known of it, which is nothing where no route comes there.
+#[derive(Clone, Copy)]
+pub(crate) struct SurveyedLine {
+    pub(crate) unit: UnitId,
+    pub(crate) flag: bool,
+    pub(crate) line: Line,
+    pub(crate) survey: Option<Survey>,
 }
 
-/// Takes in what is known of the lines of one unit.
-fn take_in(
-    heap: Global,
-    formed: &Formed,
-    id: UnitId,
-    bounds: &[u32],
-    surveys: &mut Vec<Option<Survey>>,
-) -> Result<(), AllocError> {
-    let Some(unit) = unit_text(formed, id) else {
-        return Ok(());
-    };
-    let table = survey(&unit, bounds, heap)?;
-    for (i, entry) in table.iter().enumerate() {
-        if let Some((steps, (low, high))) = *entry
-            && let Some(line) = unit.first.checked_add(i)
-            && line < unit.end
-            && let Some(place) = surveys.get_mut(line)
-        {
-            *place = Some(Survey {
-                steps,
-                low,
-                high,
-                longest: false,
-            });
+/// The lines of a formed program, in their order.
+#[derive(Drop)]
+pub(crate) struct SurveyedText {
+    pub(crate) lines: Vec<SurveyedLine>,
+}
+
+impl SurveyedText {
+    /// The lines with nothing known of them.
+    fn blank(heap: Global, formed: &Formed) -> Result<SurveyedText, AllocError> {
+        let layout = &formed.layout;
+        let lines = layout
+            .marks
+            .iter()
+            .zip(layout.program.lines.iter())
+            .map(|(mark, line)| SurveyedLine {
+                unit: mark.unit,
+                flag: mark.flag,
+                line: *line,
+                survey: None,
+            })
+            .collect(heap)?;
+        Ok(SurveyedText { lines })
+    }
+
+    /// Takes in what is known of the lines of one unit.
+    fn take_in(
+        &mut self,
+        heap: Global,
+        unit: &UnitText<'_>,
+        bounds: &[u32],
+    ) -> Result<(), AllocError> {
+        let table = survey(unit, bounds, heap)?;
+        let own = self.lines.iter_mut().take(unit.end).skip(unit.first);
+        for (line, entry) in own.zip(table.iter()) {
+            if let Some((steps, (low, high))) = *entry {
+                line.survey = Some(Survey {
+                    steps,
+                    low,
+                    high,
+                    longest: false,
+                });
+            }
+        }
+        Ok(())
+    }
+
+    /// The lines with what is known of each.
+    pub(crate) fn of(heap: Global, formed: &Formed) -> Result<SurveyedText, AllocError> {
+        let bounds = mechanism_bounds(formed, heap)?;
+        let mut text = SurveyedText::blank(heap, formed)?;
+        let modules = Module::ALL.into_iter().map(UnitId::Module);
+        let mechanisms = (0..formed.layout.program.activation.len()).map(UnitId::Mechanism);
+        for id in modules.chain(mechanisms) {
+            if let Some(unit) = unit_text(formed, id) {
+                text.take_in(heap, &unit, bounds.as_slice())?;
+            }
+        }
+        Ok(text)
+    }
+
+    /// Marks the lines of a route.
+    fn mark(&mut self, route: &[usize]) {
+        for line in route {
+            if let Some(
+                SurveyedLine {
+                    survey: Some(survey),
+                    ..
+                },
+            ) = self.lines.get_mut(*line)
+            {
+                survey.longest = true;
+            }
         }
     }
-    Ok(())
-}
 
-/// What is known of each line of a formed program.
-pub(crate) fn survey_all(heap: Global, formed: &Formed) -> Result<Vec<Option<Survey>>, AllocError> {
-    let bounds = mechanism_bounds(formed, heap)?;
-    let mut surveys = blank(heap, formed.program.lines.len())?;
-    for module in 0..7usize {
-        take_in(
-            heap,
-            formed,
-            UnitId::Module(module),
-            bounds.as_slice(),
-            &mut surveys,
-        )?;
-    }
-    for mechanism in 0..formed.program.activation.len() {
-        take_in(
-            heap,
-            formed,
-            UnitId::Mechanism(mechanism),
-            bounds.as_slice(),
-            &mut surveys,
-        )?;
-    }
-    Ok(surveys)
-}
-
-/// Marks the lines of a route.
-fn mark(route: &[usize], surveys: &mut Vec<Option<Survey>>) {
-    for line in route.iter().copied() {
-        if let Some(Some(survey)) = surveys.get_mut(line) {
-            survey.longest = true;
+    /// Marks the routes of one longest scan.
+    pub(crate) fn mark_longest(
+        &mut self,
+        heap: Global,
+        program: &Accepted,
+    ) -> Result<(), AllocError> {
+        let longest = longest_scan(program, heap)?;
+        let modules = [&longest.input, &longest.block, &longest.main];
+        for route in modules.into_iter().chain(longest.mechanisms.iter()) {
+            self.mark(route.as_slice());
         }
+        Ok(())
     }
-}
-
-/// Marks the routes of one longest scan.
-pub(crate) fn mark_longest(
-    heap: Global,
-    program: &Accepted,
-    surveys: &mut Vec<Option<Survey>>,
-) -> Result<(), AllocError> {
-    let longest = longest_scan(program, heap)?;
-    mark(longest.input.as_slice(), surveys);
-    mark(longest.block.as_slice(), surveys);
-    mark(longest.main.as_slice(), surveys);
-    for route in longest.mechanisms.iter() {
-        mark(route.as_slice(), surveys);
-    }
-    Ok(())
 }

@@ -1,21 +1,19 @@
 -- What is left over at MAIN's end: a mechanism that is open, or one that is begun nowhere. Assumes nothing.
-use Rattle.std.proofs.Common.{◌≡◌, ℕ, ◌+◌, ◌<◌, ◌≤◌, min, Bool, true, false, cond, not, ◌&&◌, eqb, ◌⊎◌, List, length, Some, None, Decides, Option, unwrap_or, sym, refl, ap, ◌∙◌, subst, inl, inr, arith, lit<}
-use Rattle.std.specs.List.{IsAnyAnswer, HoldsAt}
+use Rattle.std.proofs.Common.{◌≡◌, ℕ, ◌+◌, ◌<◌, ◌≤◌, min, Bool, true, false, cond, not, ◌&&◌, eqb, ◌⊎◌, List, length, Some, None, MatchBool, Decides, Option, unwrap_or, sym, refl, ap, ◌∙◌, subst, inl, inr, arith, lit<}
+use Rattle.std.specs.List.{HoldsAt, AllWithin}
 use Rattle.std.proofs.lemmas.Bool.{cases_lt, true≢false}
-use Rattle.std.proofs.lemmas.Bool.Decides.{Decides-like, Decides-eqb}
-use Rattle.std.proofs.lemmas.List.Elements.{contains_decides}
-use Rattle.std.proofs.lemmas.List.{get_or_default}
-use Rattle.rules.specs.declared.unit.UnitId.TheVariants.{Module}
+use Rattle.rules.specs.Unit.{Module}
 use Rattle.rules.specs.Op.{is_begin, is_end}
 use Rattle.rules.specs.Program.{Program, Own, line_at, main_module, module_first, module_end, module_of, open_at, begin_line}
-use Rattle.rules.specs.Form.{Shaped, LeftOver, IsBadMechanism}
+use Rattle.rules.specs.Form.{Shaped, Begun, LeftOver, IsBadMechanism}
 use Rattle.theory.proofs.Text.{named, open_more, module_is, end_within}
 use Rattle.theory.proofs.Orderly.{clash}
 use Rattle.theory.proofs.Spans.{next_begin, next_end, next_quiet, begins_not_ends}
 use Rattle.theory.proofs.Units.{own_module, make_module}
 use Rattle.text.specs.Finds.{Finds}
 use Rattle.text.specs.Mechanisms.{Unpaired, Misses}
-use Rattle.text.specs.Tables.{BeginsAre}
+use Rattle.text.specs.declared.bracket.Bracket.{Bracket}
+use Rattle.text.specs.Tables.{no_bracket, bracket_at, BeginsAre}
 use Rattle.text.proofs.Firsts.{find_within}
 use Rattle.text.proofs.Pairing.{begun_by, begun_there}
 
@@ -48,18 +46,22 @@ module _ (p : Program) (sec : Shaped p) where
 
 -- MECHANISMS THAT ARE BEGUN NOWHERE
 
-pub missing : (p : Program) (begins : List ℕ) (n : ℕ) (r : Bool) → length begins ≡ length p.activation → n ≡ length p.lines → BeginsAre p begins → IsAnyAnswer (λ (y : ℕ) (t : Bool). eqb y n ≡ t) begins r → Decides r (Misses p)
-missing p begins n r long count are h = Decides-like r to from (contains_decides eqb Decides-eqb begins n r h)
+pub missing : (p : Program) (brackets : List Bracket) (n : ℕ) (r : Bool) → length brackets ≡ length p.activation → n ≡ length p.lines → BeginsAre p brackets → MatchBool r ((k : ℕ) × (k < length brackets) × HoldsAt (λ (b : Bracket). b.begin ≡ n) brackets k) (AllWithin (λ (b : Bracket). b.begin ≡ n → ⊥) brackets 0 (length brackets)) → Decides r (Misses p)
+missing p brackets n r long count are h = go r h
   where
-    to : (k : ℕ) × (k < length begins) × HoldsAt (λ y. y ≡ n) begins k → Misses p
-    to (k, g, e) = let q = are k (omega arith) in let z = e 0 in (k, omega arith, λ j b. (let u = begun_by p k j b in let v = b.0 in omega arith))
+    to : (k : ℕ) × (k < length brackets) × HoldsAt (λ (b : Bracket). b.begin ≡ n) brackets k → Misses p
+    to (k, g, e) = let q = are k (omega arith) in let z = e no_bracket in (k, omega arith, λ j b. (let u = begun_by p k j b in let v = b.0 in omega arith))
 
-    from : Misses p → (k : ℕ) × (k < length begins) × HoldsAt (λ y. y ≡ n) begins k
-    from (k, g, none) = (k, omega arith, λ d. get_or_default begins k d 0 (omega arith) ∙ are k g ∙ whole (cases_lt (begin_line p k) (length p.lines)))
+    outside : (k : ℕ) → k < length p.activation → ((j : ℕ) → Begun p k j → ⊥) → (bracket_at brackets k).begin ≡ n
+    outside k g none = are k g ∙ whole (cases_lt (begin_line p k) (length p.lines))
       where
         whole : (begin_line p k < length p.lines) ⊎ (length p.lines ≤ begin_line p k) → begin_line p k ≡ n
         whole (inl b) = absurd (none (begin_line p k) (begun_there p k b))
         whole (inr b) = let u = find_within (λ x. is_begin x && eqb x.operand k) p.lines in omega arith
+
+    go : (r : Bool) → MatchBool r ((k : ℕ) × (k < length brackets) × HoldsAt (λ (b : Bracket). b.begin ≡ n) brackets k) (AllWithin (λ (b : Bracket). b.begin ≡ n → ⊥) brackets 0 (length brackets)) → Decides r (Misses p)
+    go true h = (λ _. to h, λ _. refl)
+    go false h = (λ q. absurd (true≢false (sym q)), λ m. absurd (h m.0 no_bracket (omega arith) (let g = m.1 in omega arith) (outside m.0 m.1 m.2)))
 
 -- BOTH TOGETHER WITH THE LINES
 

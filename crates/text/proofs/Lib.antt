@@ -1,7 +1,7 @@
 pub mod Filled
 pub mod Firsts
+pub mod Searches
 pub mod MarkSteps
-pub mod Landing
 pub mod Pairing
 pub mod LeftOver
 pub mod Breaches

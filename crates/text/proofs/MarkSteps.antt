@@ -1,26 +1,23 @@
 -- One more line marked with its unit and its text flag. Assumes nothing.
-use Rattle.std.proofs.Common.{◌≡◌, ℕ, ◌+◌, ◌<◌, ◌≤◌, Bool, false, eqb, List, [], ◌∷◌, ◌++◌, length, None, vec_items, vec_len, Option, sym, refl, ap, ◌∙◌, arith}
+use Rattle.std.proofs.Common.{◌≡◌, ℕ, ◌+◌, ◌<◌, ◌≤◌, Bool, false, eqb, List, [], ◌∷◌, ◌++◌, length, None, Option, sym, refl, ap, ◌∙◌, arith}
+use Rattle.std.proofs.lemmas.List.{length_push}
 use Rattle.std.proofs.lemmas.Bool.{eq-eqb, ne_eqb, cond-true, cond-false}
 use Rattle.rules.specs.declared.line.Line.{Line}
-use Rattle.rules.specs.declared.unit.UnitId.{UnitId}
-use Rattle.rules.specs.declared.unit.UnitId.TheVariants.{Module}
+use Rattle.rules.specs.Unit.{Module}
 use Rattle.rules.specs.Program.{Program, line_at, no_line, main_module, module_first, module_of, open_after, flag_after, stretch, open_at, main_or, unit_of, flag_at}
 use Rattle.theory.proofs.Text.{stretch_more, open_push}
-use Rattle.text.specs.declared.marks.Marks.{Marks}
-use Rattle.text.specs.Marks.{Marked}
+use Rattle.rules.specs.Named.{unit_named}
+use Rattle.text.specs.declared.marks.Mark.{Mark}
+use Rattle.text.specs.Marks.{no_mark, Marked}
 use Rattle.text.proofs.Filled.{filled_more}
 
-pub marked_more : (p : Program) (m n : Marks) (i : ℕ) (u : UnitId) (f : Bool) → Marked p m i → vec_items n.units ≡ vec_items m.units ++ u ∷ [] → vec_items n.flags ≡ vec_items m.flags ++ f ∷ [] → vec_len n.units ≡ vec_len m.units + 1 → vec_len n.flags ≡ vec_len m.flags + 1 → u ≡ unit_of p i → f ≡ flag_at p i → Marked p n (i + 1)
-marked_more p m n i u f h us fs ul fl ui fi =
-    let a = m.units.ok.0 in
-    let b = m.flags.ok.0 in
-    let x = h.units_count in
-    let y = h.flags_count in
+pub marked_more : (p : Program) (ms ns : List Mark) (i : ℕ) (x : Mark) → Marked p ms i → ns ≡ ms ++ x ∷ [] → unit_named x.unit ≡ unit_of p i → x.flag ≡ flag_at p i → Marked p ns (i + 1)
+marked_more p ms ns i x h e ui fi =
+    let a = h.count in
     record {
-      units_count = omega arith;
-      flags_count = omega arith;
-      units_are = filled_more (vec_items m.units) (vec_items n.units) u (Module 0) i (unit_of p) us (omega arith) h.units_are ui;
-      flags_are = filled_more (vec_items m.flags) (vec_items n.flags) f false i (flag_at p) fs (omega arith) h.flags_are fi;
+      count = ap length e ∙ length_push ms x ∙ omega arith;
+      units_are = filled_more (λ m. unit_named m.unit) ms ns x no_mark i (unit_of p) e a h.units_are ui;
+      flags_are = filled_more (λ m. m.flag) ms ns x no_mark i (flag_at p) e a h.flags_are fi;
     }
 
 flag_push : (b : Bool) (xs : List Line) (x : Line) → flag_after b (xs ++ x ∷ []) ≡ flag_after (flag_after b xs) (x ∷ [])

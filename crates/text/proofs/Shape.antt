@@ -22,5 +22,5 @@ module _ (p : Program) where
     all_lines = p.all_lines ∙ p.lines.ok.0;
   }
 
-pub formed_by_rules : (f : Formed) → rules.Formed (meant f.program)
-formed_by_rules f = record { shaped = shaped f.program; unbroken = f.unbroken }
+pub formed_by_rules : (f : Formed) → rules.Formed (meant f.layout.program)
+formed_by_rules f = record { shaped = shaped f.layout.program; unbroken = f.unbroken }

@@ -1,9 +1,8 @@
 pub mod Tables
 pub mod Finds
-pub mod Operands
 pub mod Faults
 pub mod Marks
+pub mod Placed
 pub mod Mechanisms
-pub mod Targets
 pub mod Verdicts
 pub mod Views

@@ -19,12 +19,12 @@ pub enum TextFault {
     Uninitialised(usize),
 }
 
-impl TextFault {
-    /// The refusal whole: the rule, the layer and the place.
-    pub fn refusal(self) -> Refusal
-        ensures { result ≡ text_refusal self }
-    {
-        let (rule, place) = match self {
+impl From<TextFault> for Refusal {
+    ghost from_gives = { λ f r. r ≡ text_refusal f };
+
+    // The refusal whole: the rule, the layer and the place.
+    fn from(fault: TextFault) -> Refusal {
+        let (rule, place) = match fault {
             TextFault::UnknownLine(line) => (Rule::UnknownLine, line),
             TextFault::BadOperand(line) => (Rule::BadOperand, line),
             TextFault::BadMechanism(line) => (Rule::BadMechanism, line),
@@ -49,6 +49,7 @@ pub enum CheckFault {
     Memory,
 }
 
+// kept: the From that thiserror writes states no from_gives, so the check would not know which fault a `?` makes
 impl From<TextFault> for CheckFault {
     ghost from_gives = { λ f r. r ≡ Text f };
 

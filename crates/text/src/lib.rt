@@ -2,13 +2,12 @@
 
 #![tactic(auto)]
 
+pub mod bracket;
 pub mod fault;
 pub mod formed;
 pub mod forming;
-mod layout;
+pub mod layout;
 mod lines;
-mod marks;
-mod numbers;
-mod operand;
+pub mod marks;
 pub mod span;
 mod tables;

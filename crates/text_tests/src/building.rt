@@ -11,24 +11,15 @@ use std::alloc::{AllocError, Global};
 fn bits_inside(activation: &[u16]) -> bool
     ensures { result ≡ true → (k : ℕ) → k < length activation.now → slice_index activation.now k < 144 }
 {
-    for bit in activation {
-        if *bit >= 144 {
-            return false;
-        }
-    }
-    true
+    activation.iter().all(|bit| *bit < 144)
 }
 
 // The number of lines of all modules.
-fn total(lengths: &[u16]) -> u64
+fn total(lengths: &[u16]) -> usize
     requires { length lengths.now ≡ 7 }
     ensures { result ≡ total lengths.now }
 {
-    let mut sum: u64 = 0;
-    for n in lengths {
-        sum += u64::from(*n);
-    }
-    sum
+    lengths.iter().map(|n| usize::from(*n)).sum()
 }
 
 /// The program with 18 data bytes of 0, the activation bits, the lengths of the seven modules and the lines given, or none where it has not
@@ -44,7 +35,7 @@ pub fn program(
     if lengths.len() != 7 || activation.len() > 32 || lines.len() > 2048 {
         return Ok(None);
     }
-    if !bits_inside(activation) || total(lengths) != lines.len() as u64 {
+    if !bits_inside(activation) || total(lengths) != lines.len() {
         return Ok(None);
     }
     let initial = vec![in heap; 0; 18]?;

@@ -2,10 +2,12 @@
 use Rattle.std.proofs.Common.{◌≡◌, ℕ, ◌+◌, ◌<◌, ◌≤◌, Bool, true, false, ◌||◌, eqb, List, length, Some, Option, sym, refl, ap, ◌∙◌, subst, inl, inr, arith, lit<}
 use Rattle.std.proofs.lemmas.Bool.{eqb-true, both_ways, false≢true}
 use Rattle.rules.specs.declared.line.Line.{Line}
-use Rattle.rules.specs.Op.{is_begin, is_jump, is_exit, and, or, xor, Op, ldr, logic, logic_cell, ca, wr, fl, fl1, jl, ex, ex_if, lod, sto, ad, ge, abs, mech_begin, mech_end, mech_init}
+use Rattle.rules.specs.declared.op.Op.{Op}
+use Rattle.rules.specs.declared.op.Logic.TheVariants.{And, Or, Xor}
+use Rattle.rules.specs.declared.op.Op.TheVariants.{Ldr, Combine, CombineCell, Ca, Wr, Fl, Fl1, Jl, Ex, ExIf, Lod, Sto, Ad, Ge, Abs, MechBegin, MechEnd, MechInit}
+use Rattle.rules.specs.Op.{is_begin, is_jump, is_exit}
 use Rattle.rules.specs.Program.{Program, line_at, main_module, module_first, module_end, Own, begin_line, end_line, first, end, after, Real}
-use Rattle.rules.specs.declared.unit.UnitId.{UnitId}
-use Rattle.rules.specs.declared.unit.UnitId.TheVariants.{Module, Mechanism}
+use Rattle.rules.specs.Unit.{UnitId, Module, Mechanism}
 use Rattle.rules.specs.Form.{Shaped, Reaches}
 use Rattle.rules.specs.Route.{Way, Entry, Arrives, at_entry, passed, Route, to_end, stopped, Steps, none, line, entered, Takes}
 use Rattle.rules.specs.Run.{Place, at, over}
@@ -24,31 +26,31 @@ pub begins_exits : (x : Line) → is_begin x ≡ true → is_exit x ≡ false
 begins_exits x h = ap (λ (c : ℕ). eqb c 11 || (eqb c 12 || eqb c 13)) (eqb-true x.code 22 h)
 
 -- only MECH_BEGIN has its code
-begin_op : (o : Op) → eqb (op_code o) 22 ≡ true → (k : ℕ) × (o ≡ mech_begin k)
-begin_op (ldr s a) h = absurd (false≢true h)
-begin_op (logic and s a) h = absurd (false≢true h)
-begin_op (logic or s a) h = absurd (false≢true h)
-begin_op (logic xor s a) h = absurd (false≢true h)
-begin_op (logic_cell and) h = absurd (false≢true h)
-begin_op (logic_cell or) h = absurd (false≢true h)
-begin_op (logic_cell xor) h = absurd (false≢true h)
-begin_op (ca) h = absurd (false≢true h)
-begin_op (wr a) h = absurd (false≢true h)
-begin_op (fl v a) h = absurd (false≢true h)
-begin_op (fl1 v a) h = absurd (false≢true h)
-begin_op (jl false t) h = absurd (false≢true h)
-begin_op (jl true t) h = absurd (false≢true h)
-begin_op (ex) h = absurd (false≢true h)
-begin_op (ex_if false) h = absurd (false≢true h)
-begin_op (ex_if true) h = absurd (false≢true h)
-begin_op (lod w a) h = absurd (false≢true h)
-begin_op (sto w a) h = absurd (false≢true h)
-begin_op (ad w a) h = absurd (false≢true h)
-begin_op (abs w) h = absurd (false≢true h)
-begin_op (ge w a) h = absurd (false≢true h)
-begin_op (mech_begin k) h = (k, refl)
-begin_op (mech_end k) h = absurd (false≢true h)
-begin_op (mech_init k) h = absurd (false≢true h)
+begin_op : (o : Op) → eqb (op_code o) 22 ≡ true → (k : ℕ) × (o ≡ MechBegin k)
+begin_op (Ldr s a) h = absurd (false≢true h)
+begin_op (Combine And s a) h = absurd (false≢true h)
+begin_op (Combine Or s a) h = absurd (false≢true h)
+begin_op (Combine Xor s a) h = absurd (false≢true h)
+begin_op (CombineCell And) h = absurd (false≢true h)
+begin_op (CombineCell Or) h = absurd (false≢true h)
+begin_op (CombineCell Xor) h = absurd (false≢true h)
+begin_op (Ca) h = absurd (false≢true h)
+begin_op (Wr a) h = absurd (false≢true h)
+begin_op (Fl v a) h = absurd (false≢true h)
+begin_op (Fl1 v a) h = absurd (false≢true h)
+begin_op (Jl false t) h = absurd (false≢true h)
+begin_op (Jl true t) h = absurd (false≢true h)
+begin_op (Ex) h = absurd (false≢true h)
+begin_op (ExIf false) h = absurd (false≢true h)
+begin_op (ExIf true) h = absurd (false≢true h)
+begin_op (Lod w a) h = absurd (false≢true h)
+begin_op (Sto w a) h = absurd (false≢true h)
+begin_op (Ad w a) h = absurd (false≢true h)
+begin_op (Abs w) h = absurd (false≢true h)
+begin_op (Ge w a) h = absurd (false≢true h)
+begin_op (MechBegin k) h = (k, refl)
+begin_op (MechEnd k) h = absurd (false≢true h)
+begin_op (MechInit k) h = absurd (false≢true h)
 
 module _ (p : Program) (sec : Shaped p) (ord : Orderly p) where
   -- a mechanism's MECH_BEGIN, found again
@@ -107,7 +109,7 @@ module _ (p : Program) (sec : Shaped p) (ord : Orderly p) where
       let q = ord.known l h in
       let s = decode_says (line_at p l) q.0 q.1 in
       let o = begin_op q.0 (sym (ap (λ (c : ℕ). eqb c 22) s.code_is) ∙ b) in
-      let r : Reaches p (line_at p l) (Some (mech_begin o.0)) = subst (λ (z : Option Op). Reaches p (line_at p l) z) (q.1 ∙ ap Some o.1) (ord.reaches l h) in
+      let r : Reaches p (line_at p l) (Some (MechBegin o.0)) = subst (λ (z : Option Op). Reaches p (line_at p l) z) (q.1 ∙ ap Some o.1) (ord.reaches l h) in
       let a : (line_at p l).operand ≡ o.0 = s.arg_is ∙ ap (λ (z : Op). arg_of z (line_at p l).operand) o.1 in
       rw a r
 

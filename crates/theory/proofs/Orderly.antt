@@ -2,10 +2,11 @@
 use Rattle.std.proofs.Common.{◌≡◌, ℕ, ◌+◌, ◌*◌, ◌<◌, ◌≤◌, Bool, true, false, ◌⊎◌, length, Some, None, Option, sym, refl, ap, inl, inr, arith, lit≤}
 use Rattle.std.proofs.lemmas.Bool.{cases_eq, cases_lt}
 use Rattle.rules.specs.declared.line.Line.{Line}
-use Rattle.rules.specs.Op.{is_begin, is_end, is_jump, is_exit, Op, ldr, logic, logic_cell, ca, wr, fl, fl1, jl, ex, ex_if, lod, sto, ad, ge, abs, mech_begin, mech_end, mech_init}
+use Rattle.rules.specs.declared.op.Op.{Op}
+use Rattle.rules.specs.declared.op.Op.TheVariants.{Ldr, Combine, CombineCell, Ca, Wr, Fl, Fl1, Jl, Ex, ExIf, Lod, Sto, Ad, Ge, Abs, MechBegin, MechEnd, MechInit}
+use Rattle.rules.specs.Op.{bytes_of, is_begin, is_end, is_jump, is_exit}
 use Rattle.rules.specs.Program.{Program, line_at, op_at, main_module, module_end, module_of, open_at, unit_of, Own, end, sequential}
-use Rattle.rules.specs.declared.unit.UnitId.{UnitId}
-use Rattle.rules.specs.declared.unit.UnitId.TheVariants.{Module, Mechanism}
+use Rattle.rules.specs.Unit.{UnitId, Module, Mechanism}
 use Rattle.rules.specs.Form.{Reaches, Begun, IsBadMechanism, Lands}
 use Rattle.rules.specs.Verdict.{by_unknown_line, by_bad_operand, by_bad_mechanism, by_bad_jump, by_bad_exit, Formed}
 
@@ -58,24 +59,24 @@ lands_or_not p t (Mechanism k) = owned p (Mechanism k) t
 
 reached : (p : Program) (x : Line) (o : Option Op) → Reaches p x o ⊎ (Reaches p x o → ⊥)
 reached p x None = inl tt
-reached p x (Some (ldr s b)) = below b (8 * length p.initial)
-reached p x (Some (logic f s b)) = below b (8 * length p.initial)
-reached p x (Some (logic_cell f)) = cases_eq x.operand 0
-reached p x (Some ca) = cases_eq x.operand 0
-reached p x (Some (wr b)) = below b (8 * length p.initial)
-reached p x (Some (fl v b)) = below b (8 * length p.initial)
-reached p x (Some (fl1 v b)) = below b (8 * length p.initial)
-reached p x (Some (jl w t)) = inl tt
-reached p x (Some ex) = cases_eq x.operand 0
-reached p x (Some (ex_if w)) = cases_eq x.operand 0
-reached p x (Some (lod w a)) = upto (a + w) (length p.initial)
-reached p x (Some (sto w a)) = upto (a + w) (length p.initial)
-reached p x (Some (ad w a)) = upto (a + w) (length p.initial)
-reached p x (Some (ge w a)) = upto (a + w) (length p.initial)
-reached p x (Some (abs w)) = cases_eq x.operand 0
-reached p x (Some (mech_begin k)) = below k (length p.activation)
-reached p x (Some (mech_end k)) = below k (length p.activation)
-reached p x (Some (mech_init k)) = below k (length p.activation)
+reached p x (Some (Ldr s b)) = below b (8 * length p.initial)
+reached p x (Some (Combine f s b)) = below b (8 * length p.initial)
+reached p x (Some (CombineCell f)) = cases_eq x.operand 0
+reached p x (Some Ca) = cases_eq x.operand 0
+reached p x (Some (Wr b)) = below b (8 * length p.initial)
+reached p x (Some (Fl v b)) = below b (8 * length p.initial)
+reached p x (Some (Fl1 v b)) = below b (8 * length p.initial)
+reached p x (Some (Jl w t)) = inl tt
+reached p x (Some Ex) = cases_eq x.operand 0
+reached p x (Some (ExIf w)) = cases_eq x.operand 0
+reached p x (Some (Lod w a)) = upto (a + (bytes_of w)) (length p.initial)
+reached p x (Some (Sto w a)) = upto (a + (bytes_of w)) (length p.initial)
+reached p x (Some (Ad w a)) = upto (a + (bytes_of w)) (length p.initial)
+reached p x (Some (Ge w a)) = upto (a + (bytes_of w)) (length p.initial)
+reached p x (Some (Abs w)) = cases_eq x.operand 0
+reached p x (Some (MechBegin k)) = below k (length p.activation)
+reached p x (Some (MechEnd k)) = below k (length p.activation)
+reached p x (Some (MechInit k)) = below k (length p.activation)
 
 -- the rules of the text as facts
 pub record Orderly (p : Program) : Type 0 where

@@ -2,10 +2,11 @@
 use Rattle.std.proofs.Common.{◌≡◌, ℕ, suc, ◌+◌, ◌<◌, ◌≤◌, Bool, true, false, cond, ◌&&◌, ◌||◌, eqb, ◌⊎◌, List, [], ◌∷◌, length, ℤ, pos, negsuc, ◌+ℤ◌, Some, None, Option, sym, refl, ap, ◌∙◌, subst, inl, inr, add-zero, arith, lit<}
 use Rattle.std.proofs.lemmas.Bool.{eqb-true, eqb-false, cases_eq, and_right, true≢false}
 use Rattle.rules.specs.declared.line.Line.{Line}
-use Rattle.rules.specs.Op.{is_begin, is_jump, is_exit, is_ex, Op, jl, ex, ex_if, mech_begin, mech_init}
+use Rattle.rules.specs.declared.op.Op.{Op}
+use Rattle.rules.specs.declared.op.Op.TheVariants.{Jl, Ex, ExIf, MechBegin, MechInit}
+use Rattle.rules.specs.Op.{is_begin, is_jump, is_exit, is_ex}
 use Rattle.rules.specs.Program.{Program, line_at, op_at, main_module, Own, end_line, first, end, after, Real, sequential, flag_at, pushes, pops}
-use Rattle.rules.specs.declared.unit.UnitId.{UnitId}
-use Rattle.rules.specs.declared.unit.UnitId.TheVariants.{Module, Mechanism}
+use Rattle.rules.specs.Unit.{UnitId, Module, Mechanism}
 use Rattle.rules.specs.Form.{Shaped, Reaches}
 use Rattle.rules.specs.Route.{Way, Arrives, at_entry, passed, Route, to_end, stopped, Steps, none, line, entered, Takes, change, depth}
 use Rattle.rules.specs.Verdict.{off}
@@ -79,20 +80,20 @@ code_by s q e = s.code_is ∙ ap op_code e
 arg_by : {y : Line} {o : Op} → Says y o → (q : Op) → o ≡ q → y.operand ≡ arg_of q y.operand
 arg_by {y} s q e = s.arg_is ∙ ap (λ (x : Op). arg_of x y.operand) e
 
-jump_by : {y : Line} {o : Op} → Says y o → (w : Bool) (t : ℕ) → o ≡ jl w t → is_jump y ≡ true
-jump_by s false t e = ap (λ (c : ℕ). eqb c 9 || eqb c 10) (code_by s (jl false t) e)
-jump_by s true t e = ap (λ (c : ℕ). eqb c 9 || eqb c 10) (code_by s (jl true t) e)
+jump_by : {y : Line} {o : Op} → Says y o → (w : Bool) (t : ℕ) → o ≡ Jl w t → is_jump y ≡ true
+jump_by s false t e = ap (λ (c : ℕ). eqb c 9 || eqb c 10) (code_by s (Jl false t) e)
+jump_by s true t e = ap (λ (c : ℕ). eqb c 9 || eqb c 10) (code_by s (Jl true t) e)
 
-exit_by : {y : Line} {o : Op} → Says y o → o ≡ ex → is_exit y ≡ true
-exit_by s e = ap (λ (c : ℕ). eqb c 11 || (eqb c 12 || eqb c 13)) (code_by s ex e)
+exit_by : {y : Line} {o : Op} → Says y o → o ≡ Ex → is_exit y ≡ true
+exit_by s e = ap (λ (c : ℕ). eqb c 11 || (eqb c 12 || eqb c 13)) (code_by s Ex e)
 
-exit_if_by : {y : Line} {o : Op} → Says y o → (w : Bool) → o ≡ ex_if w → is_exit y ≡ true
-exit_if_by s false e = ap (λ (c : ℕ). eqb c 11 || (eqb c 12 || eqb c 13)) (code_by s (ex_if false) e)
-exit_if_by s true e = ap (λ (c : ℕ). eqb c 11 || (eqb c 12 || eqb c 13)) (code_by s (ex_if true) e)
+exit_if_by : {y : Line} {o : Op} → Says y o → (w : Bool) → o ≡ ExIf w → is_exit y ≡ true
+exit_if_by s false e = ap (λ (c : ℕ). eqb c 11 || (eqb c 12 || eqb c 13)) (code_by s (ExIf false) e)
+exit_if_by s true e = ap (λ (c : ℕ). eqb c 11 || (eqb c 12 || eqb c 13)) (code_by s (ExIf true) e)
 
-may_go_on : {y : Line} {o : Op} → Says y o → (w : Bool) → o ≡ ex_if w → is_ex y ≡ false
-may_go_on s false e = ap (λ (c : ℕ). eqb c 11) (code_by s (ex_if false) e)
-may_go_on s true e = ap (λ (c : ℕ). eqb c 11) (code_by s (ex_if true) e)
+may_go_on : {y : Line} {o : Op} → Says y o → (w : Bool) → o ≡ ExIf w → is_ex y ≡ false
+may_go_on s false e = ap (λ (c : ℕ). eqb c 11) (code_by s (ExIf false) e)
+may_go_on s true e = ap (λ (c : ℕ). eqb c 11) (code_by s (ExIf true) e)
 
 module _ (p : Program) (sec : Shaped p) (ord : Orderly p) where
   main_real : Real p (Module main_module)
@@ -191,7 +192,7 @@ module _ (p : Program) (sec : Shaped p) (ord : Orderly p) where
   turned_stands t k u path l o r m x follows h = moved t k u path l o r m m (after p l) x x.fitting (inl (ap (λ (c : ℕ). eqb c 11) x.says.code_is ∙ h, refl)) (after_stays p sec ord u l x.real x.own)
   turned_stands t k u path l o r m x (goes y) h =
       let j = jump_by x.says h.0 y h.1 in
-      let q : (line_at p l).operand ≡ y = arg_by x.says (jl h.0 y) h.1 in
+      let q : (line_at p l).operand ≡ y = arg_by x.says (Jl h.0 y) h.1 in
       moved t k u path l o r m m y x x.fitting (inr (j, sym q)) (subst (λ (z : ℕ). Stays p u z) q (jump_stays p sec ord u l x.own j))
   turned_stands t k u path l o r m x stops h =
       let e = exit_by x.says h in
@@ -201,16 +202,16 @@ module _ (p : Program) (sec : Shaped p) (ord : Orderly p) where
       let e = exit_if_by x.says h.0 h.1 in
       moved t k u path l o r m (with_point m u (after p l)) (after p l) x (point_kept p m x.fitting u (after p l) x.real (inr (l, x.own, e, refl))) (inl (may_go_on x.says h.0 h.1, refl)) (after_stays p sec ord u l x.real x.own)
   turned_stands t k u path l o r m x (enters j) h =
-      let b : is_begin (line_at p l) ≡ true = ap (λ (c : ℕ). eqb c 22) (code_by x.says (mech_begin j) h) in
-      let g = outer_of t k u path l j (begins_in_main u l x.own b) x.own x.arrives x.before b (arg_by x.says (mech_begin j) h) in
+      let b : is_begin (line_at p l) ≡ true = ap (λ (c : ℕ). eqb c 22) (code_by x.says (MechBegin j) h) in
+      let g = outer_of t k u path l j (begins_in_main u l x.own b) x.own x.arrives x.before b (arg_by x.says (MechBegin j) h) in
       enter_mechanism t (suc k) j k m (subst (λ (z : Op). Reaches p (line_at p l) (Some z)) h x.reaches) g.0 g.1.0 refl x.fitting
   turned_stands t k u path l o r m x (skips j) h =
-      let b : is_begin (line_at p l) ≡ true = ap (λ (c : ℕ). eqb c 22) (code_by x.says (mech_begin j) h) in
-      let g = outer_of t k u path l j (begins_in_main u l x.own b) x.own x.arrives x.before b (arg_by x.says (mech_begin j) h) in
+      let b : is_begin (line_at p l) ≡ true = ap (λ (c : ℕ). eqb c 22) (code_by x.says (MechBegin j) h) in
+      let g = outer_of t k u path l j (begins_in_main u l x.own b) x.own x.arrives x.before b (arg_by x.says (MechBegin j) h) in
       main_after_stands t (suc k) j k m g.1.0 g.0 (span p sec ord j (subst (λ (z : Op). Reaches p (line_at p l) (Some z)) h x.reaches)) g.1.1 x.fitting
   turned_stands t k u path l o r m x (resets j) h =
       let e : j < length p.activation = subst (λ (z : Op). Reaches p (line_at p l) (Some z)) h x.reaches in
-      moved t k u path l o r m (with_point m (Mechanism j) (first p (Mechanism j))) (after p l) x (point_kept p m x.fitting (Mechanism j) (first p (Mechanism j)) e (inl refl)) (inl (ap (λ (c : ℕ). eqb c 11) (code_by x.says (mech_init j) h), refl)) (after_stays p sec ord u l x.real x.own)
+      moved t k u path l o r m (with_point m (Mechanism j) (first p (Mechanism j))) (after p l) x (point_kept p m x.fitting (Mechanism j) (first p (Mechanism j)) e (inl refl)) (inl (ap (λ (c : ℕ). eqb c 11) (code_by x.says (MechInit j) h), refl)) (after_stays p sec ord u l x.real x.own)
 
   pub step_stands : (t k : ℕ) (c d : Config) → Stands p t k c → Step p c d → Stands p t (suc k) d
   step_stands t k c d s (step {u = u} {l = l} pl own e) =

@@ -2,10 +2,10 @@
 use Rattle.std.proofs.Common.{◌≡◌, ℕ, zero, suc, ◌+◌, ◌<◌, ◌≤◌, true, false, ◌⊎◌, List, [], ◌∷◌, length, get_or, replicate, ℤ, pos, ◌+ℤ◌, ◌≤ℤ◌, None, sym, refl, ap, ◌∙◌, subst, inl, inr, arith, lit<, lit≤}
 use Rattle.std.proofs.lemmas.Int.{ints}
 use Rattle.std.proofs.lemmas.Bool.{false≢true, cases_eq}
-use Rattle.rules.specs.Op.{LDR, LA, WR, JL1, is_begin, is_end, is_init, is_jump, is_exit}
+use Rattle.rules.specs.declared.op.Mnemonic.TheVariants as name
+use Rattle.rules.specs.Op.{is_begin, is_end, is_init, is_jump, is_exit}
 use Rattle.rules.specs.Program.{Program, Own, Real, line_at, op_at, open_at, unit_of, first, end, after, pushes, pops, input_module, block_init, block_done, main_module}
-use Rattle.rules.specs.declared.unit.UnitId.{UnitId}
-use Rattle.rules.specs.declared.unit.UnitId.TheVariants.{Module, Mechanism}
+use Rattle.rules.specs.Unit.{UnitId, Module, Mechanism}
 use Rattle.rules.specs.Image.{Section, data_section, mechanism_section, module_section, line_section, least_count, most_count}
 use Rattle.rules.specs.Form.{records, Shaped, Reaches, Lands}
 use Rattle.rules.specs.Route.{Way, Entry, Arrives, at_entry, passed, to_end, none, line, Takes, BlockTakes, ScanTakes, change, depth}
@@ -173,7 +173,7 @@ apart n e = n (cc e)
 -- TEN
 
 abbrev ten : Program
-ten = in_input (replicate 10 (row LDR 0 0))
+ten = in_input (replicate 10 (row name.Ldr 0 0))
 
 ten_inputs : Inputs ten
 ten_inputs = record { shaped = record { counts = in_range; bytes_small = zeros_small; activation_inside = λ k h. absurd (omega arith); all_lines = refl }; no_mechanism = refl; shut = λ l e. ap (open_at ten) e; input_first = refl; input_end = refl; fine = each (Fine ten) 10 ((((((((((tt, ((λ e. clash ⊥ _ e, lit< tt, refl), refl, refl, refl, refl)), ((λ e. clash ⊥ _ e, lit< tt, refl), refl, refl, refl, refl)), ((λ e. clash ⊥ _ e, lit< tt, refl), refl, refl, refl, refl)), ((λ e. clash ⊥ _ e, lit< tt, refl), refl, refl, refl, refl)), ((λ e. clash ⊥ _ e, lit< tt, refl), refl, refl, refl, refl)), ((λ e. clash ⊥ _ e, lit< tt, refl), refl, refl, refl, refl)), ((λ e. clash ⊥ _ e, lit< tt, refl), refl, refl, refl, refl)), ((λ e. clash ⊥ _ e, lit< tt, refl), refl, refl, refl, refl)), ((λ e. clash ⊥ _ e, lit< tt, refl), refl, refl, refl, refl)), ((λ e. clash ⊥ _ e, lit< tt, refl), refl, refl, refl, refl)); leads = each (Leads ten) 10 ((((((((((tt, (refl, inl refl)), (refl, inl refl)), (refl, inl refl)), (refl, inl refl)), (refl, inl refl)), (refl, inl refl)), (refl, inl refl)), (refl, inl refl)), (refl, inl refl)), (refl, inl refl)) }
@@ -202,7 +202,7 @@ ten_refused = refusal ten ten_inputs 9 ten_label refl ten_next ten_jumps (off {u
 -- LEFT
 
 abbrev left : Program
-left = in_input (row LDR 0 0 ∷ row LDR 0 0 ∷ row WR 0 64 ∷ [])
+left = in_input (row name.Ldr 0 0 ∷ row name.Ldr 0 0 ∷ row name.Wr 0 64 ∷ [])
 
 left_inputs : Inputs left
 left_inputs = record { shaped = record { counts = in_range; bytes_small = zeros_small; activation_inside = λ k h. absurd (omega arith); all_lines = refl }; no_mechanism = refl; shut = λ l e. ap (open_at left) e; input_first = refl; input_end = refl; fine = each (Fine left) 3 (((tt, ((λ e. clash ⊥ _ e, lit< tt, refl), refl, refl, refl, refl)), ((λ e. clash ⊥ _ e, lit< tt, refl), refl, refl, refl, refl)), ((λ e. clash ⊥ _ e, lit< tt, refl), refl, refl, refl, refl)); leads = each (Leads left) 3 (((tt, (refl, inl refl)), (refl, inl refl)), (refl, inl refl)) }
@@ -231,7 +231,7 @@ left_refused = refusal left left_inputs 3 left_label refl left_next left_jumps (
 -- MEETING
 
 abbrev meeting : Program
-meeting = in_input (row LDR 0 0 ∷ row JL1 0 4 ∷ row LDR 0 0 ∷ row LDR 0 0 ∷ row LA 2 0 ∷ [])
+meeting = in_input (row name.Ldr 0 0 ∷ row name.Jl1 0 4 ∷ row name.Ldr 0 0 ∷ row name.Ldr 0 0 ∷ row name.La 2 0 ∷ [])
 
 meeting_inputs : Inputs meeting
 meeting_inputs = record { shaped = record { counts = in_range; bytes_small = zeros_small; activation_inside = λ k h. absurd (omega arith); all_lines = refl }; no_mechanism = refl; shut = λ l e. ap (open_at meeting) e; input_first = refl; input_end = refl; fine = each (Fine meeting) 5 (((((tt, ((λ e. clash ⊥ _ e, lit< tt, refl), refl, refl, refl, refl)), ((λ e. clash ⊥ _ e, tt, refl), refl, refl, refl, refl)), ((λ e. clash ⊥ _ e, lit< tt, refl), refl, refl, refl, refl)), ((λ e. clash ⊥ _ e, lit< tt, refl), refl, refl, refl, refl)), ((λ e. clash ⊥ _ e, refl, refl), refl, refl, refl, refl)); leads = each (Leads meeting) 5 (((((tt, (refl, inl refl)), (refl, inr (lit< tt, lit< tt, refl))), (refl, inl refl)), (refl, inl refl)), (refl, inl refl)) }

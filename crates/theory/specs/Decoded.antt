@@ -2,53 +2,56 @@
 -- codes and the operations. Assumes nothing.
 use Rattle.std.specs.Prelude.{◌≡◌, ℕ, Bool, true, false, ◌&&◌, ◌||◌, Some, ◌==◌}
 use Rattle.rules.specs.declared.line.Line.{Line}
-use Rattle.rules.specs.Op.{LA, LO, LX, code_of, Op, ldr, logic, logic_cell, ca, wr, fl, fl1, jl, ex, ex_if, lod, sto, ad, ge, abs, mech_begin, mech_end, mech_init, name_of, decode}
+use Rattle.rules.specs.declared.op.Op.{Op}
+use Rattle.rules.specs.declared.op.Mnemonic.TheVariants as name
+use Rattle.rules.specs.declared.op.Op.TheVariants.{Ldr, Combine, CombineCell, Ca, Wr, Fl, Fl1, Jl, Ex, ExIf, Lod, Sto, Ad, Ge, Abs, MechBegin, MechEnd, MechInit}
+use Rattle.rules.specs.Op.{code_of, name_of, decode}
 
 -- the number that an operation names, or the one given where it names none
 abbrev pub arg_of : Op → ℕ → ℕ
-arg_of (ldr s a) d = a
-arg_of (logic f s a) d = a
-arg_of (logic_cell f) d = d
-arg_of ca d = d
-arg_of (wr a) d = a
-arg_of (fl v a) d = a
-arg_of (fl1 v a) d = a
-arg_of (jl w t) d = t
-arg_of ex d = d
-arg_of (ex_if w) d = d
-arg_of (lod w a) d = a
-arg_of (sto w a) d = a
-arg_of (ad w a) d = a
-arg_of (abs w) d = d
-arg_of (ge w a) d = a
-arg_of (mech_begin k) d = k
-arg_of (mech_end k) d = k
-arg_of (mech_init k) d = k
+arg_of (Ldr s a) d = a
+arg_of (Combine f s a) d = a
+arg_of (CombineCell f) d = d
+arg_of Ca d = d
+arg_of (Wr a) d = a
+arg_of (Fl v a) d = a
+arg_of (Fl1 v a) d = a
+arg_of (Jl w t) d = t
+arg_of Ex d = d
+arg_of (ExIf w) d = d
+arg_of (Lod w a) d = a
+arg_of (Sto w a) d = a
+arg_of (Ad w a) d = a
+arg_of (Abs w) d = d
+arg_of (Ge w a) d = a
+arg_of (MechBegin k) d = k
+arg_of (MechEnd k) d = k
+arg_of (MechInit k) d = k
 
 -- the operations that pop a cell
 abbrev pub pop_of : Op → Bool
-pop_of (ldr s a) = false
-pop_of (logic f s a) = false
-pop_of (logic_cell f) = true
-pop_of ca = false
-pop_of (wr a) = false
-pop_of (fl v a) = false
-pop_of (fl1 v a) = false
-pop_of (jl w t) = false
-pop_of ex = false
-pop_of (ex_if w) = false
-pop_of (lod w a) = false
-pop_of (sto w a) = false
-pop_of (ad w a) = false
-pop_of (abs w) = false
-pop_of (ge w a) = false
-pop_of (mech_begin k) = false
-pop_of (mech_end k) = false
-pop_of (mech_init k) = false
+pop_of (Ldr s a) = false
+pop_of (Combine f s a) = false
+pop_of (CombineCell f) = true
+pop_of Ca = false
+pop_of (Wr a) = false
+pop_of (Fl v a) = false
+pop_of (Fl1 v a) = false
+pop_of (Jl w t) = false
+pop_of Ex = false
+pop_of (ExIf w) = false
+pop_of (Lod w a) = false
+pop_of (Sto w a) = false
+pop_of (Ad w a) = false
+pop_of (Abs w) = false
+pop_of (Ge w a) = false
+pop_of (MechBegin k) = false
+pop_of (MechEnd k) = false
+pop_of (MechInit k) = false
 
 -- the codes of the lines that pop at mode 2
 abbrev pub cell_code : ℕ → Bool
-cell_code c = c == code_of LA || c == code_of LO || c == code_of LX
+cell_code c = c == code_of name.La || c == code_of name.Lo || c == code_of name.Lx
 
 -- what a line says of its operation
 pub record Says (x : Line) (o : Op) : Type 0 where

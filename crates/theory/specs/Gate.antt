@@ -1,6 +1,6 @@
 -- The gate program, worked through: one mechanism that opens a gate, waits, and shuts it. Assumes nothing.
 use Rattle.std.specs.Prelude.{◌≡◌, ℕ, List, [], ◌∷◌, replicate, slice_index}
-use Rattle.rules.specs.Op.{LDR, FL, FL1, EX, EX0, MECH_BEGIN, MECH_END, MECH_INIT}
+use Rattle.rules.specs.declared.op.Mnemonic.TheVariants as name
 use Rattle.rules.specs.Program.{Program}
 use Rattle.rules.specs.Verdict.{Accepted, Certified}
 use Rattle.rules.specs.declared.session.Phase.TheVariants.{Idle}
@@ -14,7 +14,7 @@ gate = record {
   initial = replicate 18 0;
   activation = 136 ∷ [];
   lengths = 0 ∷ 0 ∷ 0 ∷ 9 ∷ 1 ∷ 1 ∷ 0 ∷ [];
-  lines = row LDR 0 0 ∷ row FL1 1 136 ∷ row MECH_BEGIN 0 0 ∷ row FL 1 64 ∷ row EX 0 0 ∷ row LDR 0 1 ∷ row EX0 0 0 ∷ row FL 0 64 ∷ row MECH_END 0 0 ∷ row MECH_INIT 0 0 ∷ row MECH_INIT 0 0 ∷ [];
+  lines = row name.Ldr 0 0 ∷ row name.Fl1 1 136 ∷ row name.MechBegin 0 0 ∷ row name.Fl 1 64 ∷ row name.Ex 0 0 ∷ row name.Ldr 0 1 ∷ row name.Ex0 0 0 ∷ row name.Fl 0 64 ∷ row name.MechEnd 0 0 ∷ row name.MechInit 0 0 ∷ row name.MechInit 0 0 ∷ [];
 }
 
 -- the inputs with a byte at port 0 and 0 at the others

@@ -1,7 +1,13 @@
 -- Worked cases: what codes and modes are read as, what each operation does, which lines clear the text flag, where the data stand, and the numbers of the refusals. Assumes nothing.
 use Rattle.std.specs.Prelude.{◌≡◌, ℕ, Bool, true, false, List, [], ◌∷◌, map, replicate, Some, None}
 use Rattle.rules.specs.declared.line.Line.{Line}
-use Rattle.rules.specs.Op.{Mnemonic, LDR, LA, LO, LX, CA, WR, FL, FL1, JL0, JL1, EX, EX0, EX1, LOD, STO, AD, ABS, GE, MECH_BEGIN, MECH_END, MECH_INIT, code_of, and, or, xor, Op, ldr, logic, logic_cell, ca, wr, fl, fl1, jl, ex, ex_if, lod, sto, ad, ge, abs, mech_begin, mech_end, mech_init, decode}
+use Rattle.rules.specs.declared.op.Mnemonic.{Mnemonic}
+use Rattle.rules.specs.declared.op.Op.{Op}
+use Rattle.rules.specs.declared.op.Mnemonic.TheVariants as name
+use Rattle.rules.specs.declared.op.Logic.TheVariants.{And, Or, Xor}
+use Rattle.rules.specs.declared.op.Op.TheVariants.{Ldr, Combine, CombineCell, Ca, Wr, Fl, Fl1, Jl, Ex, ExIf, Lod, Sto, Ad, Ge, Abs, MechBegin, MechEnd, MechInit}
+use Rattle.rules.specs.declared.op.Width.TheVariants.{One, Two, Four}
+use Rattle.rules.specs.Op.{code_of, decode}
 use Rattle.rules.specs.Refusal.{rule_number}
 use Rattle.rules.specs.declared.refusal.Rule.TheVariants.{TooShort, CountOutOfRange, ActivationOutside, BytesLeftOver, WrongTotal, UnknownLine, BadOperand, BadMechanism, BadJump, BadExit, BadInit, BadDepth, Uninitialised, BlockStartOutsidePhase0, ReportOutsidePhase2, PortAboveSeven}
 use Rattle.rules.specs.Program.{null_program, flag_after}
@@ -36,72 +42,72 @@ full = true ∷ true ∷ true ∷ true ∷ true ∷ true ∷ true ∷ true ∷ [
 -- what the bit operations do: the bytes are 5 and 2, so that the bits 0, 2 and 9 are 1
 abbrev pub BitsWork : Type 0
 BitsWork =
-    Does (ldr false 2) (regs false 7 (true ∷ [])) (5 ∷ 2 ∷ []) (regs true 7 (true ∷ [])) (5 ∷ 2 ∷ []) follows
-    × Does (ldr true 9) (regs true 7 []) (5 ∷ 2 ∷ []) (regs false 7 []) (5 ∷ 2 ∷ []) follows
-    × DoesFlagged (ldr false 1) (regs true 7 (false ∷ [])) (5 ∷ 2 ∷ []) (regs false 7 (true ∷ false ∷ [])) (5 ∷ 2 ∷ []) follows
-    × Ruleless true (ldr false 0) (regs true 0 full) (5 ∷ 2 ∷ [])
-    × Ruleless false (ldr false 16) (regs true 0 []) (5 ∷ 2 ∷ [])
-    × Does (logic and false 1) (regs true 7 []) (5 ∷ 2 ∷ []) (regs false 7 []) (5 ∷ 2 ∷ []) follows
-    × Does (logic and true 1) (regs true 7 []) (5 ∷ 2 ∷ []) (regs true 7 []) (5 ∷ 2 ∷ []) follows
-    × Does (logic or false 0) (regs false 7 []) (5 ∷ 2 ∷ []) (regs true 7 []) (5 ∷ 2 ∷ []) follows
-    × Does (logic or false 1) (regs false 7 []) (5 ∷ 2 ∷ []) (regs false 7 []) (5 ∷ 2 ∷ []) follows
-    × Does (logic xor false 0) (regs true 7 []) (5 ∷ 2 ∷ []) (regs false 7 []) (5 ∷ 2 ∷ []) follows
-    × Does (logic xor false 0) (regs false 7 []) (5 ∷ 2 ∷ []) (regs true 7 []) (5 ∷ 2 ∷ []) follows
-    × Does (logic_cell and) (regs true 7 (false ∷ true ∷ [])) (5 ∷ 2 ∷ []) (regs false 7 (true ∷ [])) (5 ∷ 2 ∷ []) follows
-    × Does (logic_cell or) (regs false 7 (true ∷ false ∷ [])) (5 ∷ 2 ∷ []) (regs true 7 (false ∷ [])) (5 ∷ 2 ∷ []) follows
-    × Does (logic_cell xor) (regs true 7 (true ∷ [])) (5 ∷ 2 ∷ []) (regs false 7 []) (5 ∷ 2 ∷ []) follows
-    × Ruleless false (logic_cell and) (regs true 0 []) (5 ∷ 2 ∷ [])
-    × Does ca (regs true 7 (true ∷ [])) (5 ∷ 2 ∷ []) (regs false 7 (true ∷ [])) (5 ∷ 2 ∷ []) follows
-    × Does (wr 1) (regs true 7 []) (5 ∷ 2 ∷ []) (regs true 7 []) (7 ∷ 2 ∷ []) follows
-    × Does (wr 9) (regs false 7 []) (5 ∷ 2 ∷ []) (regs false 7 []) (5 ∷ 0 ∷ []) follows
-    × Does (fl true 15) (regs false 7 []) (5 ∷ 2 ∷ []) (regs false 7 []) (5 ∷ 130 ∷ []) follows
-    × Does (fl false 2) (regs true 7 []) (5 ∷ 2 ∷ []) (regs true 7 []) (1 ∷ 2 ∷ []) follows
-    × Does (fl1 true 1) (regs true 7 []) (5 ∷ 2 ∷ []) (regs true 7 []) (7 ∷ 2 ∷ []) follows
-    × Does (fl1 false 0) (regs true 7 []) (5 ∷ 2 ∷ []) (regs true 7 []) (4 ∷ 2 ∷ []) follows
-    × Does (fl1 true 1) (regs false 7 []) (5 ∷ 2 ∷ []) (regs false 7 []) (5 ∷ 2 ∷ []) follows
+    Does (Ldr false 2) (regs false 7 (true ∷ [])) (5 ∷ 2 ∷ []) (regs true 7 (true ∷ [])) (5 ∷ 2 ∷ []) follows
+    × Does (Ldr true 9) (regs true 7 []) (5 ∷ 2 ∷ []) (regs false 7 []) (5 ∷ 2 ∷ []) follows
+    × DoesFlagged (Ldr false 1) (regs true 7 (false ∷ [])) (5 ∷ 2 ∷ []) (regs false 7 (true ∷ false ∷ [])) (5 ∷ 2 ∷ []) follows
+    × Ruleless true (Ldr false 0) (regs true 0 full) (5 ∷ 2 ∷ [])
+    × Ruleless false (Ldr false 16) (regs true 0 []) (5 ∷ 2 ∷ [])
+    × Does (Combine And false 1) (regs true 7 []) (5 ∷ 2 ∷ []) (regs false 7 []) (5 ∷ 2 ∷ []) follows
+    × Does (Combine And true 1) (regs true 7 []) (5 ∷ 2 ∷ []) (regs true 7 []) (5 ∷ 2 ∷ []) follows
+    × Does (Combine Or false 0) (regs false 7 []) (5 ∷ 2 ∷ []) (regs true 7 []) (5 ∷ 2 ∷ []) follows
+    × Does (Combine Or false 1) (regs false 7 []) (5 ∷ 2 ∷ []) (regs false 7 []) (5 ∷ 2 ∷ []) follows
+    × Does (Combine Xor false 0) (regs true 7 []) (5 ∷ 2 ∷ []) (regs false 7 []) (5 ∷ 2 ∷ []) follows
+    × Does (Combine Xor false 0) (regs false 7 []) (5 ∷ 2 ∷ []) (regs true 7 []) (5 ∷ 2 ∷ []) follows
+    × Does (CombineCell And) (regs true 7 (false ∷ true ∷ [])) (5 ∷ 2 ∷ []) (regs false 7 (true ∷ [])) (5 ∷ 2 ∷ []) follows
+    × Does (CombineCell Or) (regs false 7 (true ∷ false ∷ [])) (5 ∷ 2 ∷ []) (regs true 7 (false ∷ [])) (5 ∷ 2 ∷ []) follows
+    × Does (CombineCell Xor) (regs true 7 (true ∷ [])) (5 ∷ 2 ∷ []) (regs false 7 []) (5 ∷ 2 ∷ []) follows
+    × Ruleless false (CombineCell And) (regs true 0 []) (5 ∷ 2 ∷ [])
+    × Does Ca (regs true 7 (true ∷ [])) (5 ∷ 2 ∷ []) (regs false 7 (true ∷ [])) (5 ∷ 2 ∷ []) follows
+    × Does (Wr 1) (regs true 7 []) (5 ∷ 2 ∷ []) (regs true 7 []) (7 ∷ 2 ∷ []) follows
+    × Does (Wr 9) (regs false 7 []) (5 ∷ 2 ∷ []) (regs false 7 []) (5 ∷ 0 ∷ []) follows
+    × Does (Fl true 15) (regs false 7 []) (5 ∷ 2 ∷ []) (regs false 7 []) (5 ∷ 130 ∷ []) follows
+    × Does (Fl false 2) (regs true 7 []) (5 ∷ 2 ∷ []) (regs true 7 []) (1 ∷ 2 ∷ []) follows
+    × Does (Fl1 true 1) (regs true 7 []) (5 ∷ 2 ∷ []) (regs true 7 []) (7 ∷ 2 ∷ []) follows
+    × Does (Fl1 false 0) (regs true 7 []) (5 ∷ 2 ∷ []) (regs true 7 []) (4 ∷ 2 ∷ []) follows
+    × Does (Fl1 true 1) (regs false 7 []) (5 ∷ 2 ∷ []) (regs false 7 []) (5 ∷ 2 ∷ []) follows
 
 -- where the lines that lead elsewhere lead
 abbrev pub TurnsWork : Type 0
 TurnsWork =
-    Does (jl false 40) (regs false 7 []) (5 ∷ 2 ∷ []) (regs false 7 []) (5 ∷ 2 ∷ []) (goes 40)
-    × Does (jl false 40) (regs true 7 []) (5 ∷ 2 ∷ []) (regs true 7 []) (5 ∷ 2 ∷ []) follows
-    × Does (jl true 40) (regs true 7 []) (5 ∷ 2 ∷ []) (regs true 7 []) (5 ∷ 2 ∷ []) (goes 40)
-    × Does (jl true 40) (regs false 7 []) (5 ∷ 2 ∷ []) (regs false 7 []) (5 ∷ 2 ∷ []) follows
-    × Does ex (regs true 7 []) (5 ∷ 2 ∷ []) (regs true 7 []) (5 ∷ 2 ∷ []) stops
-    × Does (ex_if false) (regs false 7 []) (5 ∷ 2 ∷ []) (regs false 7 []) (5 ∷ 2 ∷ []) waits
-    × Does (ex_if false) (regs true 7 []) (5 ∷ 2 ∷ []) (regs true 7 []) (5 ∷ 2 ∷ []) resumes
-    × Does (ex_if true) (regs true 7 []) (5 ∷ 2 ∷ []) (regs true 7 []) (5 ∷ 2 ∷ []) waits
-    × Does (ex_if true) (regs false 7 []) (5 ∷ 2 ∷ []) (regs false 7 []) (5 ∷ 2 ∷ []) resumes
-    × Does (mech_begin 0) (regs true 7 []) (5 ∷ 3 ∷ []) (regs true 7 []) (5 ∷ 3 ∷ []) (enters 0)
-    × Does (mech_begin 0) (regs true 7 []) (5 ∷ 2 ∷ []) (regs true 7 []) (5 ∷ 2 ∷ []) (skips 0)
-    × Does (mech_end 0) (regs true 7 []) (5 ∷ 3 ∷ []) (regs true 7 []) (5 ∷ 2 ∷ []) follows
-    × Does (mech_init 0) (regs true 7 []) (5 ∷ 3 ∷ []) (regs true 7 []) (5 ∷ 2 ∷ []) (resets 0)
+    Does (Jl false 40) (regs false 7 []) (5 ∷ 2 ∷ []) (regs false 7 []) (5 ∷ 2 ∷ []) (goes 40)
+    × Does (Jl false 40) (regs true 7 []) (5 ∷ 2 ∷ []) (regs true 7 []) (5 ∷ 2 ∷ []) follows
+    × Does (Jl true 40) (regs true 7 []) (5 ∷ 2 ∷ []) (regs true 7 []) (5 ∷ 2 ∷ []) (goes 40)
+    × Does (Jl true 40) (regs false 7 []) (5 ∷ 2 ∷ []) (regs false 7 []) (5 ∷ 2 ∷ []) follows
+    × Does Ex (regs true 7 []) (5 ∷ 2 ∷ []) (regs true 7 []) (5 ∷ 2 ∷ []) stops
+    × Does (ExIf false) (regs false 7 []) (5 ∷ 2 ∷ []) (regs false 7 []) (5 ∷ 2 ∷ []) waits
+    × Does (ExIf false) (regs true 7 []) (5 ∷ 2 ∷ []) (regs true 7 []) (5 ∷ 2 ∷ []) resumes
+    × Does (ExIf true) (regs true 7 []) (5 ∷ 2 ∷ []) (regs true 7 []) (5 ∷ 2 ∷ []) waits
+    × Does (ExIf true) (regs false 7 []) (5 ∷ 2 ∷ []) (regs false 7 []) (5 ∷ 2 ∷ []) resumes
+    × Does (MechBegin 0) (regs true 7 []) (5 ∷ 3 ∷ []) (regs true 7 []) (5 ∷ 3 ∷ []) (enters 0)
+    × Does (MechBegin 0) (regs true 7 []) (5 ∷ 2 ∷ []) (regs true 7 []) (5 ∷ 2 ∷ []) (skips 0)
+    × Does (MechEnd 0) (regs true 7 []) (5 ∷ 3 ∷ []) (regs true 7 []) (5 ∷ 2 ∷ []) follows
+    × Does (MechInit 0) (regs true 7 []) (5 ∷ 3 ∷ []) (regs true 7 []) (5 ∷ 2 ∷ []) (resets 0)
 
 -- what the number operations do, at the widths 1, 2 and 4
 abbrev pub NumbersWork : Type 0
 NumbersWork =
-    Does (lod 1 1) (regs true 70000 []) (1 ∷ 2 ∷ 3 ∷ 4 ∷ []) (regs true 2 []) (1 ∷ 2 ∷ 3 ∷ 4 ∷ []) follows
-    × Does (lod 2 1) (regs true 70000 []) (1 ∷ 2 ∷ 3 ∷ 4 ∷ []) (regs true 770 []) (1 ∷ 2 ∷ 3 ∷ 4 ∷ []) follows
-    × Does (lod 4 0) (regs true 70000 []) (1 ∷ 2 ∷ 3 ∷ 4 ∷ []) (regs true 67305985 []) (1 ∷ 2 ∷ 3 ∷ 4 ∷ []) follows
-    × Ruleless false (lod 4 1) (regs true 0 []) (1 ∷ 2 ∷ 3 ∷ 4 ∷ [])
-    × Does (sto 1 2) (regs true 70000 []) (1 ∷ 2 ∷ 3 ∷ 4 ∷ []) (regs true 70000 []) (1 ∷ 2 ∷ 112 ∷ 4 ∷ []) follows
-    × Does (sto 2 1) (regs true 70000 []) (1 ∷ 2 ∷ 3 ∷ 4 ∷ []) (regs true 70000 []) (1 ∷ 112 ∷ 17 ∷ 4 ∷ []) follows
-    × Does (sto 4 0) (regs true 70000 []) (1 ∷ 2 ∷ 3 ∷ 4 ∷ []) (regs true 70000 []) (112 ∷ 17 ∷ 1 ∷ 0 ∷ []) follows
+    Does (Lod One 1) (regs true 70000 []) (1 ∷ 2 ∷ 3 ∷ 4 ∷ []) (regs true 2 []) (1 ∷ 2 ∷ 3 ∷ 4 ∷ []) follows
+    × Does (Lod Two 1) (regs true 70000 []) (1 ∷ 2 ∷ 3 ∷ 4 ∷ []) (regs true 770 []) (1 ∷ 2 ∷ 3 ∷ 4 ∷ []) follows
+    × Does (Lod Four 0) (regs true 70000 []) (1 ∷ 2 ∷ 3 ∷ 4 ∷ []) (regs true 67305985 []) (1 ∷ 2 ∷ 3 ∷ 4 ∷ []) follows
+    × Ruleless false (Lod Four 1) (regs true 0 []) (1 ∷ 2 ∷ 3 ∷ 4 ∷ [])
+    × Does (Sto One 2) (regs true 70000 []) (1 ∷ 2 ∷ 3 ∷ 4 ∷ []) (regs true 70000 []) (1 ∷ 2 ∷ 112 ∷ 4 ∷ []) follows
+    × Does (Sto Two 1) (regs true 70000 []) (1 ∷ 2 ∷ 3 ∷ 4 ∷ []) (regs true 70000 []) (1 ∷ 112 ∷ 17 ∷ 4 ∷ []) follows
+    × Does (Sto Four 0) (regs true 70000 []) (1 ∷ 2 ∷ 3 ∷ 4 ∷ []) (regs true 70000 []) (112 ∷ 17 ∷ 1 ∷ 0 ∷ []) follows
     -- 250 AD 10 gives 4, and the upper bytes are cleared
-    × Does (ad 1 0) (regs false 250 []) (10 ∷ []) (regs false 4 []) (10 ∷ []) follows
-    × Does (ad 1 0) (regs false 513 []) (10 ∷ []) (regs false 11 []) (10 ∷ []) follows
-    × Does (ad 2 0) (regs false 65535 []) (2 ∷ 1 ∷ []) (regs false 257 []) (2 ∷ 1 ∷ []) follows
-    × Does (ad 4 0) (regs false 4294967295 []) (2 ∷ 0 ∷ 0 ∷ 0 ∷ []) (regs false 1 []) (2 ∷ 0 ∷ 0 ∷ 0 ∷ []) follows
+    × Does (Ad One 0) (regs false 250 []) (10 ∷ []) (regs false 4 []) (10 ∷ []) follows
+    × Does (Ad One 0) (regs false 513 []) (10 ∷ []) (regs false 11 []) (10 ∷ []) follows
+    × Does (Ad Two 0) (regs false 65535 []) (2 ∷ 1 ∷ []) (regs false 257 []) (2 ∷ 1 ∷ []) follows
+    × Does (Ad Four 0) (regs false 4294967295 []) (2 ∷ 0 ∷ 0 ∷ 0 ∷ []) (regs false 1 []) (2 ∷ 0 ∷ 0 ∷ 0 ∷ []) follows
     -- ABS of 128 gives 128 at width 1
-    × Does (abs 1) (regs false 128 []) [] (regs false 128 []) [] follows
-    × Does (abs 1) (regs false 511 []) [] (regs false 1 []) [] follows
-    × Does (abs 2) (regs false 128 []) [] (regs false 128 []) [] follows
-    × Does (abs 4) (regs false 4294967295 []) [] (regs false 1 []) [] follows
+    × Does (Abs One) (regs false 128 []) [] (regs false 128 []) [] follows
+    × Does (Abs One) (regs false 511 []) [] (regs false 1 []) [] follows
+    × Does (Abs Two) (regs false 128 []) [] (regs false 128 []) [] follows
+    × Does (Abs Four) (regs false 4294967295 []) [] (regs false 1 []) [] follows
     -- 255 GE 0 gives RLO 0 at width 1
-    × Does (ge 1 0) (regs true 255 []) (0 ∷ []) (regs false 255 []) (0 ∷ []) follows
-    × Does (ge 1 0) (regs false 0 []) (255 ∷ []) (regs true 0 []) (255 ∷ []) follows
-    × Does (ge 1 0) (regs false 5 []) (5 ∷ []) (regs true 5 []) (5 ∷ []) follows
-    × Does (ge 2 0) (regs false 255 []) (0 ∷ 0 ∷ []) (regs true 255 []) (0 ∷ 0 ∷ []) follows
+    × Does (Ge One 0) (regs true 255 []) (0 ∷ []) (regs false 255 []) (0 ∷ []) follows
+    × Does (Ge One 0) (regs false 0 []) (255 ∷ []) (regs true 0 []) (255 ∷ []) follows
+    × Does (Ge One 0) (regs false 5 []) (5 ∷ []) (regs true 5 []) (5 ∷ []) follows
+    × Does (Ge Two 0) (regs false 255 []) (0 ∷ 0 ∷ []) (regs true 255 []) (0 ∷ 0 ∷ []) follows
 
 -- the text flag after one line of a name
 abbrev pub flag_from : Bool → Mnemonic → Bool
@@ -110,13 +116,13 @@ flag_from b n = flag_after b (row n 0 0 ∷ [])
 -- LDR sets the text flag, these lines clear it, and the others leave it
 abbrev pub FlagWorks : Type 0
 FlagWorks =
-    (flag_from false LDR ≡ true)
-    × (flag_from true MECH_BEGIN ≡ false) × (flag_from true MECH_END ≡ false) × (flag_from true WR ≡ false)
-    × (flag_from true JL0 ≡ false) × (flag_from true JL1 ≡ false) × (flag_from true FL1 ≡ false)
-    × (flag_from true EX ≡ false) × (flag_from true EX0 ≡ false) × (flag_from true EX1 ≡ false)
-    × (flag_from true LA ≡ true) × (flag_from true LO ≡ true) × (flag_from true LX ≡ true) × (flag_from true CA ≡ true) × (flag_from true FL ≡ true)
-    × (flag_from true LOD ≡ true) × (flag_from true STO ≡ true) × (flag_from true AD ≡ true) × (flag_from true ABS ≡ true) × (flag_from true GE ≡ true) × (flag_from true MECH_INIT ≡ true)
-    × (flag_from false LA ≡ false) × (flag_from false GE ≡ false) × (flag_from false MECH_INIT ≡ false)
+    (flag_from false name.Ldr ≡ true)
+    × (flag_from true name.MechBegin ≡ false) × (flag_from true name.MechEnd ≡ false) × (flag_from true name.Wr ≡ false)
+    × (flag_from true name.Jl0 ≡ false) × (flag_from true name.Jl1 ≡ false) × (flag_from true name.Fl1 ≡ false)
+    × (flag_from true name.Ex ≡ false) × (flag_from true name.Ex0 ≡ false) × (flag_from true name.Ex1 ≡ false)
+    × (flag_from true name.La ≡ true) × (flag_from true name.Lo ≡ true) × (flag_from true name.Lx ≡ true) × (flag_from true name.Ca ≡ true) × (flag_from true name.Fl ≡ true)
+    × (flag_from true name.Lod ≡ true) × (flag_from true name.Sto ≡ true) × (flag_from true name.Ad ≡ true) × (flag_from true name.Abs ≡ true) × (flag_from true name.Ge ≡ true) × (flag_from true name.MechInit ≡ true)
+    × (flag_from false name.La ≡ false) × (flag_from false name.Ge ≡ false) × (flag_from false name.MechInit ≡ false)
 
 -- a memory of 17 bytes: the inputs 0 to 7, the outputs 8 to 15, and a byte with ZAV_FCE
 abbrev pub counting : ℕ → Memory
@@ -142,27 +148,27 @@ RefusalsWork =
 -- what codes and modes are read as
 abbrev pub CodesWork : Type 0
 CodesWork =
-    (decode (record { code = 1; mode = 1; operand = 9 }) ≡ Some (ldr true 9))
-    × (decode (record { code = 2; mode = 0; operand = 9 }) ≡ Some (logic and false 9))
-    × (decode (record { code = 3; mode = 1; operand = 9 }) ≡ Some (logic or true 9))
-    × (decode (record { code = 4; mode = 2; operand = 0 }) ≡ Some (logic_cell xor))
-    × (decode (record { code = 5; mode = 0; operand = 0 }) ≡ Some ca)
-    × (decode (record { code = 6; mode = 0; operand = 9 }) ≡ Some (wr 9))
-    × (decode (record { code = 7; mode = 1; operand = 9 }) ≡ Some (fl true 9))
-    × (decode (record { code = 8; mode = 0; operand = 9 }) ≡ Some (fl1 false 9))
-    × (decode (record { code = 9; mode = 0; operand = 9 }) ≡ Some (jl false 9))
-    × (decode (record { code = 10; mode = 0; operand = 9 }) ≡ Some (jl true 9))
-    × (decode (record { code = 11; mode = 0; operand = 0 }) ≡ Some ex)
-    × (decode (record { code = 12; mode = 0; operand = 0 }) ≡ Some (ex_if false))
-    × (decode (record { code = 13; mode = 0; operand = 0 }) ≡ Some (ex_if true))
-    × (decode (record { code = 16; mode = 1; operand = 9 }) ≡ Some (lod 1 9))
-    × (decode (record { code = 17; mode = 2; operand = 9 }) ≡ Some (sto 2 9))
-    × (decode (record { code = 19; mode = 4; operand = 9 }) ≡ Some (ad 4 9))
-    × (decode (record { code = 20; mode = 1; operand = 0 }) ≡ Some (abs 1))
-    × (decode (record { code = 21; mode = 2; operand = 9 }) ≡ Some (ge 2 9))
-    × (decode (record { code = 22; mode = 0; operand = 9 }) ≡ Some (mech_begin 9))
-    × (decode (record { code = 23; mode = 0; operand = 9 }) ≡ Some (mech_end 9))
-    × (decode (record { code = 24; mode = 0; operand = 9 }) ≡ Some (mech_init 9))
+    (decode (record { code = 1; mode = 1; operand = 9 }) ≡ Some (Ldr true 9))
+    × (decode (record { code = 2; mode = 0; operand = 9 }) ≡ Some (Combine And false 9))
+    × (decode (record { code = 3; mode = 1; operand = 9 }) ≡ Some (Combine Or true 9))
+    × (decode (record { code = 4; mode = 2; operand = 0 }) ≡ Some (CombineCell Xor))
+    × (decode (record { code = 5; mode = 0; operand = 0 }) ≡ Some Ca)
+    × (decode (record { code = 6; mode = 0; operand = 9 }) ≡ Some (Wr 9))
+    × (decode (record { code = 7; mode = 1; operand = 9 }) ≡ Some (Fl true 9))
+    × (decode (record { code = 8; mode = 0; operand = 9 }) ≡ Some (Fl1 false 9))
+    × (decode (record { code = 9; mode = 0; operand = 9 }) ≡ Some (Jl false 9))
+    × (decode (record { code = 10; mode = 0; operand = 9 }) ≡ Some (Jl true 9))
+    × (decode (record { code = 11; mode = 0; operand = 0 }) ≡ Some Ex)
+    × (decode (record { code = 12; mode = 0; operand = 0 }) ≡ Some (ExIf false))
+    × (decode (record { code = 13; mode = 0; operand = 0 }) ≡ Some (ExIf true))
+    × (decode (record { code = 16; mode = 1; operand = 9 }) ≡ Some (Lod One 9))
+    × (decode (record { code = 17; mode = 2; operand = 9 }) ≡ Some (Sto Two 9))
+    × (decode (record { code = 19; mode = 4; operand = 9 }) ≡ Some (Ad Four 9))
+    × (decode (record { code = 20; mode = 1; operand = 0 }) ≡ Some (Abs One))
+    × (decode (record { code = 21; mode = 2; operand = 9 }) ≡ Some (Ge Two 9))
+    × (decode (record { code = 22; mode = 0; operand = 9 }) ≡ Some (MechBegin 9))
+    × (decode (record { code = 23; mode = 0; operand = 9 }) ≡ Some (MechEnd 9))
+    × (decode (record { code = 24; mode = 0; operand = 9 }) ≡ Some (MechInit 9))
     × (decode (record { code = 1; mode = 2; operand = 9 }) ≡ None)
     × (decode (record { code = 6; mode = 1; operand = 9 }) ≡ None)
     × (decode (record { code = 16; mode = 3; operand = 9 }) ≡ None)

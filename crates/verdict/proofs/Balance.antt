@@ -1,16 +1,10 @@
 -- The depths that do not serve at an own line, decided case by case. Assumes nothing.
-use Rattle.std.proofs.Common.{◌≡◌, ℕ, ◌<◌, Bool, true, false, ◌||◌, ◌⊎◌, ℤ, pos, sym, refl, ◌∙◌, inl, inr, arith}
+use Rattle.std.proofs.Common.{◌≡◌, ℕ, ◌<◌, Bool, true, false, ◌||◌, ◌⊎◌, ℤ, pos, refl, inl, inr, arith}
 use Rattle.std.proofs.lemmas.Bool.{both_ways}
-use Rattle.rules.specs.declared.unit.UnitId.{UnitId}
+use Rattle.rules.specs.Unit.{UnitId}
 use Rattle.rules.specs.Op.{is_begin, is_end, is_exit}
-use Rattle.rules.specs.Program.{Program, Own, line_at, end, pushes, pops}
+use Rattle.rules.specs.Program.{Program, Own, line_at, end, pushes}
 use Rattle.verdict.specs.Depths.{Misfits}
-
-one_of_three : (a b c : Bool) → (a || (b || c)) ≡ true → (a ≡ true) ⊎ ((b ≡ true) ⊎ (c ≡ true))
-one_of_three true b c h = inl refl
-one_of_three false true c h = inr (inl refl)
-one_of_three false false true h = inr (inr refl)
-one_of_three false false false h = absurd (both_ways false refl h)
 
 none_of_three : (a b c : Bool) → (a || (b || c)) ≡ false → (a ≡ true) ⊎ ((b ≡ true) ⊎ (c ≡ true)) → ⊥
 none_of_three a b c h (inl e) = three a b c h e
@@ -37,22 +31,7 @@ module _ (p : Program) (u : UnitId) (l : ℕ) (own : Own p u l) (below : l < end
   abbrev bare : Bool
   bare = is_exit (line_at p l) || (is_begin (line_at p l) || is_end (line_at p l))
 
-  -- with no cell stacked, only a pop does not serve
-  pub popped_at_none : low ≡ pos 0 → Misfits p u l low high → pops p l ≡ true
-  popped_at_none z (inl n) = absurd (n same)
-  popped_at_none z (inr (inl (o, h, e))) = h
-  popped_at_none z (inr (inr (inl (o, h, e)))) = absurd (let q : pos 0 ≡ pos 8 = sym z ∙ e in let y : ◌≡◌ {A = ℕ} 0 8 = cc in omega arith)
-  popped_at_none z (inr (inr (inr (inl (o, k, n))))) = absurd (n z)
-  popped_at_none z (inr (inr (inr (inr (e, n))))) = absurd (n z)
-
-  pub pop_misfits : low ≡ pos 0 → pops p l ≡ true → Misfits p u l low high
-  pop_misfits z h = inr (inl (own, h, z))
-
-  -- with cells stacked, a line that wants none does not serve
-  pub bare_misfits : (low ≡ pos 0 → ⊥) → bare ≡ true → Misfits p u l low high
-  bare_misfits n h = inr (inr (inr (inl (own, one_of_three (is_exit (line_at p l)) (is_begin (line_at p l)) (is_end (line_at p l)) h, n))))
-
-  -- and else only a push onto eight
+  -- with cells stacked, where a line wants some, only a push onto eight does not serve
   pub pushed_at_eight : (low ≡ pos 0 → ⊥) → bare ≡ false → Misfits p u l low high → (pushes p l ≡ true) × (low ≡ pos 8)
   pushed_at_eight n b (inl m) = absurd (m same)
   pushed_at_eight n b (inr (inl (o, h, e))) = absurd (n e)

@@ -1,8 +1,8 @@
 -- The first bad place of several units. Assumes nothing.
-use Rattle.std.proofs.Common.{◌≡◌, ℕ, ◌+◌, ◌-◌, ◌<◌, ◌≤◌, min, Bool, cond, ◌⊎◌, length, Some, None, Option, sym, ap, ◌∙◌, subst, inl, inr, arith}
-use Rattle.std.proofs.lemmas.Bool.{cases_lt, cases_order, lt-ltb, le-ltb}
-use Rattle.rules.specs.declared.unit.UnitId.{UnitId}
-use Rattle.rules.specs.declared.unit.UnitId.TheVariants.{Module, Mechanism}
+use Rattle.std.proofs.Common.{◌≡◌, ℕ, ◌+◌, ◌-◌, ◌<◌, ◌≤◌, min, Bool, true, false, cond, Decides, ◌⊎◌, length, Some, None, Option, refl, sym, ap, ◌∙◌, subst, inl, inr, arith}
+use Rattle.std.proofs.lemmas.Bool.{cases_lt, cases_order, both_ways, lt-ltb, le-ltb}
+use Rattle.std.specs.Bool.{then_some}
+use Rattle.rules.specs.Unit.{UnitId, Module, Mechanism}
 use Rattle.rules.specs.Program.{Program, Real}
 use Rattle.rules.specs.Verdict.{IsBadDepth, two_depths, off}
 use Rattle.text.specs.Finds.{Finds}
@@ -19,6 +19,12 @@ finds_either {A} {B} {C} f g h (Some a) (Some b) x y = (here (cases_lt a b), λ 
     here : (a < b) ⊎ (b ≤ a) → C (min a b)
     here (inl k) = let e : a ≡ min a b = omega arith in subst C e (f a x.0)
     here (inr k) = let e : b ≡ min a b = omega arith in subst C e (g b y.0)
+
+-- the last place where P may hold, where it holds at none before
+pub finds_last : {P : ℕ → Type 0} (b : ℕ) (last : Bool) → ((k : ℕ) → k < b → P k → ⊥) → Decides last (P b) → ((k : ℕ) → P k → k ≤ b) → Finds P (then_some last b)
+finds_last b true f d within = (d.0 refl, f)
+finds_last {P} b false f d within =
+    λ k x. elim (cases_lt k b) [ inl h ↦ f k h x | inr h ↦ both_ways false refl (d.1 (let g = within k x in let e : k ≡ b = omega arith in subst P e x)) ]
 
 -- a kind that holds of the same places has the same first place
 finds_same : {A B : ℕ → Type 0} → ((l : ℕ) → A l → B l) → ((l : ℕ) → B l → A l) → (o : Option ℕ) → Finds A o → Finds B o
@@ -43,9 +49,6 @@ module _ (p : Program) where
 
   pub without_unit : (n : ℕ) (u : UnitId) → u ≡ nth_unit n → (Real p u → ⊥) → (a : Option ℕ) → Finds (IsBadAmong p n) a → Finds (IsBadAmong p (n + 1)) a
   without_unit n u e absent a x = finds_same (wider n) (λ l c. elim (at_nth n l c) [ inl w ↦ w | inr w ↦ absurd (absent (subst (Real p) (sym e) w.0)) ]) a x
-
-  pub none_yet : Finds (IsBadAmong p 0) None
-  none_yet l a = let b = a.before in omega arith
 
   -- every unit has its number in the row
   nth_module : (m : ℕ) → m < 7 → nth_unit m ≡ Module m

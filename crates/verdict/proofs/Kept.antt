@@ -4,5 +4,5 @@ use Rattle.image.specs.Held.{meant}
 use Rattle.text.proofs.Shape.{shaped}
 use Rattle.verdict.specs.declared.accepted.Accepted.{Accepted}
 
-pub accepted : (a : Accepted) → rules.Accepted (meant a.formed.program)
-accepted a = record { shaped = shaped a.formed.program; unbroken = a.unbroken }
+pub accepted : (a : Accepted) → rules.Accepted (meant a.formed.layout.program)
+accepted a = record { shaped = shaped a.formed.layout.program; unbroken = a.unbroken }

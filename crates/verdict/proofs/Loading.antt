@@ -34,5 +34,5 @@ pub by_the_text : (image : List ℕ) (p : Program) (c : CheckFault) (f : LoadFau
 by_the_text image p (check.Text e) f s q t k = subst (RefusedSo image) (sym k) (by_text s (subst (λ (x : rules.Program). TextRefused x (rule_number (fault_rule e)) (fault_place e)) q t))
 by_the_text image p check.Memory f s q t k = subst (RefusedSo image) (sym k) tt
 
-pub loaded : (image : List ℕ) (p : Program) (f : Formed) (a : Accepted) → ImageSound image → meant p ≡ program_of image → f.program ≡ p → a.formed ≡ f → Loads image (meant a.formed.program)
-loaded image p f a s q e k = record { sound = s; program = ap (λ (x : Formed). meant x.program) k ∙ ap meant e ∙ q; unbroken = a.unbroken }
+pub loaded : (image : List ℕ) (p : Program) (f : Formed) (a : Accepted) → ImageSound image → meant p ≡ program_of image → f.layout.program ≡ p → a.formed ≡ f → Loads image (meant a.formed.layout.program)
+loaded image p f a s q e k = record { sound = s; program = ap (λ (x : Formed). meant x.layout.program) k ∙ ap meant e ∙ q; unbroken = a.unbroken }

@@ -1,9 +1,10 @@
 -- The null program's tables. Assumes nothing.
 use Rattle.std.proofs.Common.{◌≡◌, ℕ, zero, suc, ◌<◌, Bool, List, [], length, get_or, take, replicate, sym, refl, ap, ◌∙◌, subst, arith}
 use Rattle.rules.specs.declared.line.Line.{Line}
-use Rattle.rules.specs.declared.unit.UnitId.{UnitId}
 use Rattle.rules.specs.Program.{Program, null_program, total, module_first}
 use Rattle.rules.specs.Verdict.{Breaks}
+use Rattle.text.specs.declared.bracket.Bracket.{Bracket}
+use Rattle.text.specs.declared.marks.Mark.{Mark}
 use Rattle.text.specs.Tables.{Unbroken, StartsAre, BeginsAre, EndsAre, FlagsAre, UnitsAre}
 use Rattle.theory.proofs.Null.{null_accepted}
 
@@ -34,14 +35,14 @@ module _ (p : Program) (e : p ≡ null_program) where
   no_line : (l : ℕ) → l < length p.lines → ⊥
   no_line l h = let q : length p.lines ≡ 0 = ap (λ (q : Program). length q.lines) e in omega arith
 
-  pub null_begins : (begins : List ℕ) → BeginsAre p begins
-  null_begins begins k h = absurd (none k h)
+  pub null_begins : (brackets : List Bracket) → BeginsAre p brackets
+  null_begins brackets k h = absurd (none k h)
 
-  pub null_ends : (ends : List ℕ) → EndsAre p ends
-  null_ends ends k h = absurd (none k h)
+  pub null_ends : (brackets : List Bracket) → EndsAre p brackets
+  null_ends brackets k h = absurd (none k h)
 
-  pub null_flags : (flags : List Bool) → FlagsAre p flags
-  null_flags flags l h = absurd (no_line l h)
+  pub null_flags : (marks : List Mark) → FlagsAre p marks
+  null_flags marks l h = absurd (no_line l h)
 
-  pub null_units : (units : List UnitId) → UnitsAre p units
-  null_units units l h = absurd (no_line l h)
+  pub null_units : (marks : List Mark) → UnitsAre p marks
+  null_units marks l h = absurd (no_line l h)

@@ -8,5 +8,5 @@ use text::formed::Formed;
 #[derive(Drop)]
 pub struct Accepted {
     pub formed: Formed,
-    ghost unbroken: { Unbroken (meant formed.program) },
+    ghost unbroken: { Unbroken (meant formed.layout.program) },
 }

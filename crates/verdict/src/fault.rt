@@ -16,6 +16,7 @@ pub enum LoadFault {
     Memory,
 }
 
+// kept: the conversions are written out, since clauses name the error that each `?` makes, and a derive would state none; no plainer
 impl From<ImageFault> for LoadFault {
     ghost from_gives = { λ f r. r ≡ Image f };
 
@@ -49,8 +50,8 @@ impl LoadFault {
         ensures { result ≡ load_refusal self }
     {
         match self {
-            LoadFault::Image(fault) => Some(fault.refusal()),
-            LoadFault::Text(fault) => Some(fault.refusal()),
+            LoadFault::Image(fault) => Some(fault.into()),
+            LoadFault::Text(fault) => Some(fault.into()),
             LoadFault::Memory => None,
         }
     }

@@ -1,26 +1,25 @@
 // Whether INIT and CLEAR initialise every mechanism.
-ghost use Rattle.std.specs.Prelude.{◌≡◌, ◌<◌, IfOk};
+ghost use Rattle.std.specs.Prelude.{MatchResult};
+ghost use Rattle.rules.specs.Verdict.{MissesInit};
+ghost use Rattle.rules.specs.Named.{module_number};
 ghost use Rattle.image.specs.Held.{meant};
-ghost use Rattle.verdict.specs.Judged.{TellsUninitialised};
+ghost use Rattle.verdict.specs.Judged.{TellsMissed};
 
 use measures::survey::initialises_all;
-use rules::unit::UnitId;
-use std::alloc::{AllocError, Global};
+use rules::unit::{Module, UnitId};
+use std::alloc::Global;
+use text::fault::{CheckFault, TextFault};
 use text::formed::Formed;
 use walk::units::unit_text;
 
-/// Whether a route of a module comes to its end and leaves a mechanism uninitialised.
-pub(crate) fn leaves_uninitialised(
-    formed: &Formed,
-    module: usize,
-    heap: Global,
-) -> Result<bool, AllocError>
-    requires { «module» < 7 }
-    ensures { IfOk result (λ b. TellsUninitialised (meant formed.now.program) «module» b) }
+/// Refuses a formed program where a route of a module comes to its end and leaves a mechanism uninitialised.
+pub(crate) fn initialised(formed: &Formed, module: Module, heap: Global) -> Result<(), CheckFault>
+    ensures { MatchResult result (λ _. MissesInit (meant formed.now.layout.program) (module_number «module») → ⊥) (λ e. TellsMissed (meant formed.now.layout.program) (module_number «module») e) }
 {
-    let Some(unit) = unit_text(formed, UnitId::Module(module)) else {
-        return Ok(false);
-    };
-    let all = initialises_all(&unit, heap)?;
-    Ok(!all)
+    let unit = unit_text(formed, UnitId::Module(module)).unwrap();
+    if initialises_all(&unit, heap)? {
+        Ok(())
+    } else {
+        Err(TextFault::Uninitialised(module.into()).into())
+    }
 }

@@ -3,8 +3,9 @@ ghost use Rattle.std.specs.Prelude.{◌≡◌, MatchResult};
 ghost use Rattle.text.specs.Verdicts.{Told};
 
 use crate::accepted::Accepted;
-use crate::initialised::leaves_uninitialised;
+use crate::initialised::initialised;
 use crate::units::first_bad_line;
+use rules::unit::Module;
 use std::alloc::Global;
 use text::fault::{CheckFault, TextFault};
 use text::formed::Formed;
@@ -12,19 +13,12 @@ use text::formed::Formed;
 /// The accepted program of a formed one, or the refusal: depths of routes that differ or do not serve, at the first line of the text where
 /// they do not, or else a route of INIT or of CLEAR that leaves a mechanism uninitialised.
 pub(crate) fn judge(heap: Global, formed: Formed) -> Result<Accepted, CheckFault>
-    ensures { MatchResult result (λ a. a.formed ≡ formed) (λ e. Told formed.program e) }
+    ensures { MatchResult result (λ a. a.formed ≡ formed) (λ e. Told formed.layout.program e) }
 {
-    let bad = first_bad_line(&formed, heap)?;
-    if let Some(line) = bad {
-        return Err(CheckFault::Text(TextFault::BadDepth(line)));
+    if let Some(line) = first_bad_line(&formed, heap)? {
+        return Err(TextFault::BadDepth(line).into());
     }
-    let init_misses = leaves_uninitialised(&formed, 4, heap)?;
-    if init_misses {
-        return Err(CheckFault::Text(TextFault::Uninitialised(4)));
-    }
-    let clear_misses = leaves_uninitialised(&formed, 5, heap)?;
-    if clear_misses {
-        return Err(CheckFault::Text(TextFault::Uninitialised(5)));
-    }
+    initialised(&formed, Module::Init, heap)?;
+    initialised(&formed, Module::Clear, heap)?;
     Ok(Accepted { formed })
 }

@@ -7,27 +7,28 @@ use crate::accepted::Accepted;
 use image::program::Program;
 use std::alloc::{AllocError, Global};
 use text::formed::Formed;
+use text::layout::Layout;
 
 /// The null program: 17 zero data bytes, no mechanism, and seven modules without a line.
 pub(crate) fn null_program(heap: Global) -> Result<Accepted, AllocError>
-    ensures { IfOk result (λ a. meant a.formed.program ≡ null_program) }
+    ensures { IfOk result (λ a. meant a.formed.layout.program ≡ null_program) }
 {
-    let initial = Vec::from_slice(heap, &[0; 17])?;
-    let lengths = Vec::from_slice(heap, &[0; 7])?;
-    let starts = Vec::from_slice(heap, &[0; 8])?;
+    let initial = vec![in heap; 0; 17]?;
+    let lengths = vec![in heap; 0; 7]?;
+    let starts = vec![in heap; 0; 8]?;
     let program = Program {
         initial,
         activation: Vec::new(heap),
         lengths,
         lines: Vec::new(heap),
     };
-    let formed = Formed {
+    let layout = Layout {
         program,
         starts,
-        begins: Vec::new(heap),
-        ends: Vec::new(heap),
-        flags: Vec::new(heap),
-        units: Vec::new(heap),
+        brackets: Vec::new(heap),
+        marks: Vec::new(heap),
     };
-    Ok(Accepted { formed })
+    Ok(Accepted {
+        formed: Formed { layout },
+    })
 }

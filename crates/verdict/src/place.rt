@@ -21,7 +21,7 @@ pub struct Place {
 
 /// The accepted program of an image, or the refusal that the image earns.
 pub fn accept(heap: Global, image: &[u8]) -> Result<Accepted, LoadFault>
-    ensures { MatchResult result (λ a. Loads image.now (meant a.formed.program)) (λ e. RefusedSo image.now e) }
+    ensures { MatchResult result (λ a. Loads image.now (meant a.formed.layout.program)) (λ e. RefusedSo image.now e) }
 {
     let sections = read_image(image)?;
     let program = sections.program(heap)?;
@@ -33,7 +33,7 @@ pub fn accept(heap: Global, image: &[u8]) -> Result<Accepted, LoadFault>
 impl Place {
     /// A place that holds the null program.
     pub fn new(heap: Global) -> Result<Place, AllocError>
-        ensures { IfOk result (λ p. meant p.mounted.formed.program ≡ null_program) }
+        ensures { IfOk result (λ p. meant p.mounted.formed.layout.program ≡ null_program) }
     {
         let mounted = null_program(heap)?;
         Ok(Place { mounted })
@@ -48,7 +48,7 @@ impl Place {
 
     /// Mounts the program of an image if it breaks no rule; every refusal leaves the mounted program in its place.
     pub fn load(&mut self, heap: Global, image: &[u8]) -> Result<(), LoadFault>
-        ensures { MatchResult result (λ _. Loads image.now (meant self.new.mounted.formed.program)) (λ e. RefusedSo image.now e × (self.new ≡ self.old)) }
+        ensures { MatchResult result (λ _. Loads image.now (meant self.new.mounted.formed.layout.program)) (λ e. RefusedSo image.now e × (self.new ≡ self.old)) }
     {
         let accepted = accept(heap, image)?;
         self.mounted = accepted;

@@ -91,3 +91,14 @@ holds_same S T f g h = record {
   long = h.long;
   at = λ k a b. covers_same _ (S k) (T k) _ (λ v. f k v a b) (λ v. g k v a b) (h.at k a b);
 }
+
+-- one value more at a line's place, where P holds, and else the table as it was
+abbrev pub Added : {V : Type 0} → (V → V → V) → ℕ → Type 0 → List (Option V) → ℕ → V → List (Option V) → Type 0
+Added join from P t k x w = (P × (w ≡ put join t (k - from) x)) ⊎ ((P → ⊥) × (w ≡ t))
+
+pub holds_if : {V : Type 0} {join : V → V → V} {effect : ℕ → Line → V → V} (laws : Laws join effect) {from to : ℕ} {S : ℕ → V → Type 0} {t w : List (Option V)} (P : Type 0) (T : V → Type 0) (k : ℕ) (x : V) → (P → (from ≤ k) × (k ≤ to)) → Holds join from to S t → JoinOf join T x → Added join from P t k x w → Holds join from to (Plus S k (λ y. P × T y)) w
+holds_if laws P T k x place h j (inl (p, e)) =
+    let q = place p in
+    subst (Holds _ _ _ _) (sym e) (holds_more laws _ k x q.0 q.1 h (joinof_same (λ y m. (p, m)) (λ y m. m.1) j))
+holds_if laws P T k x place h j (inr (n, e)) =
+    subst (Holds _ _ _ _) (sym e) (holds_same _ _ (λ m y a b s. inl s) (λ m y a b s. ⊎_elim (λ z. z) (λ z. absurd (n z.1.0)) s) h)

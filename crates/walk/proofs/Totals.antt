@@ -1,8 +1,9 @@
 -- The whole routes of a unit. Assumes nothing.
 use Rattle.std.proofs.Common.{◌≡◌, ℕ, ◌+◌, ◌-◌, ◌<◌, ◌≤◌, true, ◌⊎◌, List, ◌∷◌, get_or, Some, None, Option, refl, ap, ◌∙◌, subst, inl, inr, ⊎_elim, arith}
+use Rattle.std.specs.Option.{IsSome}
 use Rattle.std.proofs.lemmas.Bool.{cases_lt}
 use Rattle.rules.specs.declared.line.Line.{Line}
-use Rattle.rules.specs.declared.unit.UnitId.{UnitId}
+use Rattle.rules.specs.Unit.{UnitId}
 use Rattle.rules.specs.Op.{is_exit}
 use Rattle.rules.specs.Program.{Program, line_at, first, end}
 use Rattle.rules.specs.Route.{Arrives, Route, to_end, stopped}
@@ -53,8 +54,9 @@ module _ (p : Program) (u : UnitId) (sound : Sound p u) {V : Type 0} (start : V)
       new : (x : V) → Out p u sound start effect i x → Stopped start effect p u (i + 1) x
       new x o = stopped_before o.1.1 (own_before p u sound i h (entry_own i v low read)) (omega arith) exit (ap (effect i (line_at p i)) o.1.2 ∙ o.2)
 
-  pub some_end : get_or t (end p u - first p u) None ≡ None → ⊥
-  some_end read = none_some read (table.entry (end p u) (inr refl)).1
+  pub end_some : (o : Option V) → get_or t (end p u - first p u) None ≡ o → IsSome o
+  end_some None read = absurd (none_some read (table.entry (end p u) (inr refl)).1)
+  end_some (Some v) read = refl
 
   pub from_end : (v : V) → get_or t (end p u - first p u) None ≡ Some v → JoinOf join (Stopped start effect p u (first p u)) v
   from_end v read = joinof_same (λ x b. ended b.1 b.2) back (entry_joins (end p u) v sound.order read)

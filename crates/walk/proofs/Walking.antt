@@ -1,19 +1,19 @@
 -- What each line hands on to the lines after it. Assumes nothing.
-use Rattle.std.proofs.Common.{◌≡◌, ℕ, ◌+◌, ◌-◌, ◌<◌, ◌≤◌, true, false, ◌||◌, eqb, ◌⊎◌, List, [], ◌∷◌, length, get_or, replicate, Some, None, Option, sym, refl, ap, ◌∙◌, subst, inl, inr, ⊎_elim, arith}
+use Rattle.std.proofs.Common.{◌≡◌, ℕ, ◌+◌, ◌-◌, ◌<◌, ◌≤◌, true, false, ◌⊎◌, List, [], ◌∷◌, length, get_or, replicate, Some, None, Option, sym, refl, ap, ◌∙◌, subst, inl, inr, ⊎_elim, arith}
 use lib.ListN.{length-replicate, get_or-replicate}
 use Rattle.std.proofs.lemmas.List.{get_or_past}
-use Rattle.std.proofs.lemmas.Bool.{cases_lt, both_ways, cond-false, or_left}
+use Rattle.std.proofs.lemmas.Bool.{cases_lt, cond-false}
 use Rattle.rules.specs.declared.line.Line.{Line}
-use Rattle.rules.specs.declared.unit.UnitId.{UnitId}
+use Rattle.rules.specs.Unit.{UnitId}
 use Rattle.rules.specs.Op.{is_begin, is_jump, is_exit, is_ex}
 use Rattle.rules.specs.Program.{Program, Own, line_at, first, end, end_line, after}
 use Rattle.rules.specs.Route.{Way, Entry, Arrives, at_entry, passed}
 use Rattle.walk.specs.Joins.{Laws, Built, one, both, JoinOf}
 use Rattle.walk.specs.Walked.{OwnOrEnd, along, Brought, Walked}
 use Rattle.walk.specs.Stages.{Covers, Holds, Recent, Stage, Staged}
-use Rattle.walk.proofs.Codes.{exits_begins, jumps_ex, exit_jump}
+use Rattle.walk.proofs.Codes.{exits_begins}
 use Rattle.walk.proofs.Sound.{Sound, place_low, place_high}
-use Rattle.walk.proofs.Covering.{Image, Plus, put, joinof_one, joinof_image, joinof_same, holds_more, holds_same}
+use Rattle.walk.proofs.Covering.{Image, Plus, put, joinof_one, joinof_image, joinof_same, Added, holds_more, holds_same, holds_if}
 
 -- a set that has a join has a member
 member : {V : Type 0} {join : V → V → V} {S : V → Type 0} {v : V} → Built join S v → (x : V) × S x
@@ -137,9 +137,6 @@ module _ (p : Program) (u : UnitId) (sound : Sound p u) where
           abbrev out : V
           out = effect i (line_at p i) v
 
-          abbrev at_line : List (Option V) → ℕ → V → List (Option V)
-          at_line w k x = put join w (k - first p u) x
-
           joins_here : JoinOf join (Out i) out
           joins_here = joinof_image laws i (line_at p i) joins_old
 
@@ -149,85 +146,45 @@ module _ (p : Program) (u : UnitId) (sound : Sound p u) where
           next_high : after p i ≤ end p u
           next_high = place_high sound (after p i) (sound.after_stays i some_own)
 
-          -- the line's value goes to the line that follows
-          to_next : Holds join (first p u) (end p u) (Plus Old (after p i) (Out i)) (at_line t (after p i) out)
-          to_next = holds_more laws _ (after p i) _ next_low next_high staged joins_here
+          abbrev pub target : ℕ
+          target = (line_at p i).operand
 
-          -- a line that is neither a jump nor of EX type
-          pub goes_on : is_jump (line_at p i) ≡ false → is_exit (line_at p i) ≡ false → is_ex (line_at p i) ≡ false → Done (at_line t (after p i) out)
-          goes_on no_jump no-exit no-ex = done _ there back to_next
+          target_place : is_jump (line_at p i) ≡ true → (first p u ≤ target) × (target ≤ end p u)
+          target_place e =
+              let stays = sound.jump_stays i some_own e in
+              (place_low sound target stays, place_high sound target stays)
+
+          -- where the line's value goes to the line that follows, and to a jump's target, and where a route begins
+          abbrev Next : ℕ → V → Type 0
+          Next = Plus Old (after p i) (λ y. (is_ex (line_at p i) ≡ false) × Out i y)
+
+          abbrev Jumped : ℕ → V → Type 0
+          Jumped = Plus Next target (λ y. (is_jump (line_at p i) ≡ true) × Out i y)
+
+          abbrev Begun : ℕ → V → Type 0
+          Begun = Plus Jumped (after p i) (λ y. (is_exit (line_at p i) ≡ true) × (start ≡ y))
+
+          pub visited : {t₁ t₂ t₃ : List (Option V)} → Added join (first p u) (is_ex (line_at p i) ≡ false) t (after p i) out t₁ → Added join (first p u) (is_jump (line_at p i) ≡ true) t₁ target out t₂ → Added join (first p u) (is_exit (line_at p i) ≡ true) t₂ (after p i) start t₃ → Done t₃
+          visited went_on jumped begun =
+              done Begun there back
+              (holds_if laws _ _ (after p i) start (λ _. (next_low, next_high))
+              (holds_if laws _ _ target _ target_place (holds_if laws _ _ (after p i) _ (λ _. (next_low, next_high)) staged joins_here went_on) joins_here jumped)
+              (joinof_one laws start) begun)
             where
-              there : (k : ℕ) (x : V) → Plus Old (after p i) (Out i) k x → Old k x ⊎ News i k x
-              there k x (inl s) = inl s
-              there k x (inr m) = inr (inl (some_own, inl (no-ex, m.0), m.1))
+              there : (k : ℕ) (x : V) → Begun k x → Old k x ⊎ News i k x
+              there k x (inl (inl (inl s))) = inl s
+              there k x (inl (inl (inr m))) = inr (inl (some_own, inl (m.1.0, m.0), m.1.1))
+              there k x (inl (inr m)) = inr (inl (some_own, inr (m.1.0, m.0), m.1.1))
+              there k x (inr m) = inr (inr (some_own, m.1.0, m.0, m.1.1))
 
-              goes : (k : ℕ) (x : V) → Way p i k → Out i x → Plus Old (after p i) (Out i) k x
-              goes k x (inl w) m = inr (w.1, m)
-              goes k x (inr w) m = absurd (both_ways (is_jump (line_at p i)) no_jump w.0)
+              goes : (k : ℕ) (x : V) → Way p i k → Out i x → Begun k x
+              goes k x (inl w) m = inl (inl (inr (w.1, (w.0, m))))
+              goes k x (inr w) m = inl (inr (w.1, (w.0, m)))
 
-              back : (k : ℕ) (x : V) → Old k x ⊎ News i k x → Plus Old (after p i) (Out i) k x
-              back k x (inl s) = inl s
+              back : (k : ℕ) (x : V) → Old k x ⊎ News i k x → Begun k x
+              back k x (inl s) = inl (inl (inl s))
               back k x (inr (inl m)) = goes k x m.1 m.2
-              back k x (inr (inr m)) = absurd (both_ways (is_exit (line_at p i)) no-exit m.1)
-
-          pub jumping : is_jump (line_at p i) ≡ true → Done (at_line (at_line t (after p i) out) (line_at p i).operand out)
-          jumping jump = done _ there back (holds_more laws _ target _ (place_low sound target stays) (place_high sound target stays) to_next joins_here)
-            where
-              target : ℕ
-              target = (line_at p i).operand
-
-              stays : OwnOrEnd p u target
-              stays = sound.jump_stays i some_own jump
-
-              there : (k : ℕ) (x : V) → Plus (Plus Old (after p i) (Out i)) target (Out i) k x → Old k x ⊎ News i k x
-              there k x (inl (inl s)) = inl s
-              there k x (inl (inr m)) = inr (inl (some_own, inl (jumps_ex (line_at p i) jump, m.0), m.1))
-              there k x (inr m) = inr (inl (some_own, inr (jump, m.0), m.1))
-
-              goes : (k : ℕ) (x : V) → Way p i k → Out i x → Plus (Plus Old (after p i) (Out i)) target (Out i) k x
-              goes k x (inl w) m = inl (inr (w.1, m))
-              goes k x (inr w) m = inr (w.1, m)
-
-              back : (k : ℕ) (x : V) → Old k x ⊎ News i k x → Plus (Plus Old (after p i) (Out i)) target (Out i) k x
-              back k x (inl s) = inl (inl s)
-              back k x (inr (inl m)) = goes k x m.1 m.2
-              back k x (inr (inr m)) = absurd (exit_jump (line_at p i) m.1 jump)
-
-          pub ending : is_ex (line_at p i) ≡ true → Done (at_line t (after p i) start)
-          ending ex = done _ there back (holds_more laws _ (after p i) _ next_low next_high staged (joinof_one laws start))
-            where
-              exit : is_exit (line_at p i) ≡ true
-              exit = or_left (is_ex (line_at p i)) (eqb (line_at p i).code 12 || eqb (line_at p i).code 13) ex
-
-              there : (k : ℕ) (x : V) → Plus Old (after p i) (λ y. start ≡ y) k x → Old k x ⊎ News i k x
-              there k x (inl s) = inl s
-              there k x (inr m) = inr (inr (some_own, exit, m.0, m.1))
-
-              goes : (k : ℕ) (x : V) → Way p i k → Plus Old (after p i) (λ y. start ≡ y) k x
-              goes k x (inl w) = absurd (both_ways (is_ex (line_at p i)) w.0 ex)
-              goes k x (inr w) = absurd (exit_jump (line_at p i) exit w.0)
-
-              back : (k : ℕ) (x : V) → Old k x ⊎ News i k x → Plus Old (after p i) (λ y. start ≡ y) k x
-              back k x (inl s) = inl s
-              back k x (inr (inl m)) = goes k x m.1
-              back k x (inr (inr m)) = inr (m.2, m.3)
-
-          pub pausing : is_exit (line_at p i) ≡ true → is_ex (line_at p i) ≡ false → Done (at_line (at_line t (after p i) out) (after p i) start)
-          pausing exit no-ex = done _ there back (holds_more laws _ (after p i) _ next_low next_high to_next (joinof_one laws start))
-            where
-              there : (k : ℕ) (x : V) → Plus (Plus Old (after p i) (Out i)) (after p i) (λ y. start ≡ y) k x → Old k x ⊎ News i k x
-              there k x (inl (inl s)) = inl s
-              there k x (inl (inr m)) = inr (inl (some_own, inl (no-ex, m.0), m.1))
-              there k x (inr m) = inr (inr (some_own, exit, m.0, m.1))
-
-              goes : (k : ℕ) (x : V) → Way p i k → Out i x → Plus (Plus Old (after p i) (Out i)) (after p i) (λ y. start ≡ y) k x
-              goes k x (inl w) m = inl (inr (w.1, m))
-              goes k x (inr w) m = absurd (exit_jump (line_at p i) exit w.0)
-
-              back : (k : ℕ) (x : V) → Old k x ⊎ News i k x → Plus (Plus Old (after p i) (Out i)) (after p i) (λ y. start ≡ y) k x
-              back k x (inl s) = inl (inl s)
-              back k x (inr (inl m)) = goes k x m.1 m.2
-              back k x (inr (inr m)) = inr (m.2, m.3)
+              back k x (inr (inr m)) = inr (m.2, (m.1, m.3))
 
     -- before the first line: nothing but the start value there
     pub before : {join : V → V → V} (laws : Laws join effect) (t : List (Option V)) → t ≡ put join (replicate (end p u - first p u + 1) None) 0 start → Staged start effect join p u (first p u) t

@@ -2,7 +2,7 @@
 
 #![tactic(auto)]
 
-pub mod lines;
+mod lines;
 pub mod measure;
 pub mod table;
 pub mod unit_text;

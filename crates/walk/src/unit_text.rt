@@ -1,4 +1,5 @@
 // A unit of a formed program.
+ghost use Rattle.rules.specs.Named.{unit_named};
 ghost use Rattle.image.specs.Held.{meant};
 ghost use Rattle.walk.specs.Units.{Had, BeginsAt, EndsAt};
 
@@ -12,7 +13,7 @@ pub struct UnitText<'a> {
     pub id: UnitId,
     pub first: usize,
     pub end: usize,
-    ghost had: { Had (meant formed.now.program) id },
-    ghost first_is: { BeginsAt (meant formed.now.program) id first },
-    ghost end_is: { EndsAt (meant formed.now.program) id end },
+    ghost had: { Had (meant formed.now.layout.program) (unit_named id) },
+    ghost first_is: { BeginsAt (meant formed.now.layout.program) (unit_named id) first },
+    ghost end_is: { EndsAt (meant formed.now.layout.program) (unit_named id) end },
 }

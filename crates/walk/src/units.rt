@@ -1,42 +1,32 @@
 // The units that a formed program has.
 ghost use Rattle.std.specs.Prelude.{◌≡◌, MatchOption};
 ghost use Rattle.rules.specs.Program.{Real};
+ghost use Rattle.rules.specs.Unit as unit;
+ghost use Rattle.rules.specs.Named.{unit_named};
 ghost use Rattle.image.specs.Held.{meant};
 
 use crate::unit_text::UnitText;
-use rules::unit::UnitId;
+use rules::unit::{Module, UnitId};
 use text::formed::Formed;
+use text::span::Span;
+
+/// The module of a number, of a formed program; nothing where no module has the number.
+pub fn module_text(formed: &Formed, number: usize) -> Option<UnitText<'_>>
+    ensures { MatchOption result (Real (meant formed.now.layout.program) (unit.Module number) → ⊥) (λ u. (u.formed.now ≡ formed.now) × (unit_named u.id ≡ unit.Module number)) }
+{
+    let module = Module::try_from(number).ok()?;
+    unit_text(formed, UnitId::Module(module))
+}
 
 /// A unit of a formed program; nothing where the program has no such unit.
 pub fn unit_text(formed: &Formed, id: UnitId) -> Option<UnitText<'_>>
-    ensures { MatchOption result (Real (meant formed.now.program) id → ⊥) (λ u. (u.formed.now ≡ formed.now) × (u.id ≡ id)) }
+    ensures { MatchOption result (Real (meant formed.now.layout.program) (unit_named id) → ⊥) (λ u. (u.formed.now ≡ formed.now) × (u.id ≡ id)) }
 {
-    match id {
-        UnitId::Module(m) => {
-            if m >= formed.program.lengths.len() {
-                return None;
-            }
-            let first = formed.starts[m];
-            let end = formed.starts[m + 1];
-            Some(UnitText {
-                formed,
-                id,
-                first,
-                end,
-            })
-        }
-        UnitId::Mechanism(k) => {
-            if k >= formed.program.activation.len() {
-                return None;
-            }
-            let first = formed.begins[k] + 1;
-            let end = formed.ends[k] + 1;
-            Some(UnitText {
-                formed,
-                id,
-                first,
-                end,
-            })
-        }
-    }
+    let Span { first, end } = formed.span(id)?;
+    Some(UnitText {
+        formed,
+        id,
+        first,
+        end,
+    })
 }

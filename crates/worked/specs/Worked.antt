@@ -1,7 +1,8 @@
 -- The worked programs, all in one result. Assumes nothing.
 use Rattle.std.specs.Prelude.{[], ◌∷◌, true, false}
 use Rattle.rules.specs.Effect.{follows}
-use Rattle.rules.specs.Op.{ad, abs, ge}
+use Rattle.rules.specs.declared.op.Op.TheVariants.{Ad, Abs, Ge}
+use Rattle.rules.specs.declared.op.Width.TheVariants.{One}
 use Rattle.theory.specs.Worked.{Does, regs}
 use Rattle.theory.specs.Null.{NullAccepted, NullLoads, CutRefused, LongerRefused}
 use Rattle.theory.specs.Texts.{NineAccepted, TenRefused, LeftRefused, MeetingRefused}
@@ -21,9 +22,9 @@ pub record Worked : Type 0 where
   pub left_refused : LeftRefused
   pub meeting_refused : MeetingRefused
   -- at width 1, 250 AD 10 gives 4, ABS of 128 gives 128, and 255 GE 0 gives RLO 0
-  pub sum_wraps : Does (ad 1 0) (regs false 250 []) (10 ∷ []) (regs false 4 []) (10 ∷ []) follows
-  pub smallest_stays : Does (abs 1) (regs false 128 []) [] (regs false 128 []) [] follows
-  pub signed_order : Does (ge 1 0) (regs true 255 []) (0 ∷ []) (regs false 255 []) (0 ∷ []) follows
+  pub sum_wraps : Does (Ad One 0) (regs false 250 []) (10 ∷ []) (regs false 4 []) (10 ∷ []) follows
+  pub smallest_stays : Does (Abs One) (regs false 128 []) [] (regs false 128 []) [] follows
+  pub signed_order : Does (Ge One 0) (regs true 255 []) (0 ∷ []) (regs false 255 []) (0 ∷ []) follows
   -- the gate program with input 0 as 1, 1, 2 in three scans: steps 5, 5, 7, and terminal 0 shows 1, 1, 0; it is accepted with LINES 11, STACK 0, SCAN 7
   pub gate_works : GateWorks
   pub gate_accepted : GateAccepted

@@ -7,7 +7,6 @@ ghost use Rattle.session.specs.Conducted.{Promised};
 use super::Conducted;
 use crate::call::SessionCall;
 use crate::observer::Observer;
-use crate::running::Halted;
 use crate::running::calls::start;
 use cabinet::Cabinet;
 use certificate::contents::Certificate;
@@ -24,9 +23,7 @@ fn prepared(
 ) -> Result<(Certificate, Vec<(Call, Answer)>), AllocError>
     ensures { IfOk result (λ q. Certified (program_of program.now) q.0.lines q.0.stack q.0.scan × (q.1.items ≡ []) × (vec_len q.1 ≡ 0) × (calls < vec_capacity q.1)) }
 {
-    let Some(most) = calls.checked_add(1) else {
-        return Err(AllocError);
-    };
+    let most = calls.checked_add(1).ok_or(AllocError)?;
     let certificate = certificate(program, heap)?;
     let transcript = Vec::with_capacity(heap, most)?;
     Ok((certificate, transcript))
@@ -52,42 +49,25 @@ pub fn conduct<C: Cabinet, O: Observer>(
         Ok(parts) => parts,
         Err(e) => return Err((cabinet, e)),
     };
-    let mut running = match start(program, cabinet, heap) {
-        Ok(running) => running,
-        Err(back) => return Err(back),
-    };
+    let mut running = start(program, cabinet, heap)?;
     running.show(observer, None, Answer::Done { phase: Phase::Idle });
-    for call in calls {
-        let answer = running.perform(*call);
-        transcript.push_reserved((call.call(), answer));
-        running.show(observer, Some(call.call()), answer);
+    for &call in calls {
+        let answer = running.perform(call);
+        transcript.push_reserved((call.into(), answer));
+        running.show(observer, Some(call.into()), answer);
     }
-    if halts {
-        let halted = running.halt();
-        let answer = Answer::Done {
-            phase: halted.phase,
-        };
-        halted.show(observer, answer);
+    let left = if halts {
+        let left = running.halt();
+        let answer = Answer::Done { phase: left.phase };
+        left.show(observer, answer);
         transcript.push_reserved((Call::Halt, answer));
-        let Halted {
-            cabinet,
-            memory,
-            phase,
-        } = halted;
-        return Ok(Conducted {
-            certificate,
-            transcript,
-            cabinet,
-            memory,
-            phase,
-        });
-    }
-    let (cabinet, memory, phase) = running.into_parts();
+        left
+    } else {
+        running.into_parts()
+    };
     Ok(Conducted {
         certificate,
         transcript,
-        cabinet,
-        memory,
-        phase,
+        left,
     })
 }

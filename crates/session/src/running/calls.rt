@@ -1,25 +1,21 @@
 // The start, the calls of a running program, and the halt.
-ghost use Rattle.std.specs.Prelude.{◌≡◌, ◌≤◌, vec_len, MatchResult};
+ghost use Rattle.std.specs.Prelude.{◌≡◌, MatchResult};
 ghost use Rattle.rules.specs.declared.session.Call.TheVariants.{Scan, Clear, BlockStart, PositionReport};
 ghost use Rattle.rules.specs.declared.session.Answer.TheVariants.{Scanned, Done, Refused};
-ghost use Rattle.rules.specs.Session.{after_report, zav_fce, block_points_back};
-ghost use Rattle.machine.specs.Views.{program_of, memory_of};
+ghost use Rattle.machine.specs.Views.{program_of};
 ghost use Rattle.session.specs.Calls.{call_of};
 ghost use Rattle.session.specs.Called.{Started, Called, HaltedFrom};
 
-use super::{Halted, Running};
+use super::{Left, Running};
 use crate::answer::{CallFault, ScanAnswer};
 use crate::call::SessionCall;
+use crate::fitted::Fitted;
 use crate::observer::Observer;
-use crate::scanning::{scan_memory, send_outputs};
 use cabinet::Cabinet;
 use cabinet::ports::terminals;
-use lines::bits::bit_at;
-use machine::fresh::fresh;
-use machine::memory::Memory;
-use machine::pass::pass;
 use rules::refusal::Rule;
 use rules::session::{Answer, Call, Phase};
+use rules::unit::Module;
 use std::alloc::{AllocError, Global};
 use verdict::accepted::Accepted;
 
@@ -32,39 +28,24 @@ pub fn start<'p, C: Cabinet>(
 ) -> Result<Running<'p, C>, (C, AllocError)>
     ensures { MatchResult result (λ t. Started C.Cabinet.meaning (program_of program.now) cabinet t) (λ e. e.0 ≡ cabinet) }
 {
-    match fresh(program, heap) {
-        Ok(mut memory) => {
-            let _ = pass(program, 4, &mut memory);
-            send_outputs(&mut cabinet, &memory);
-            Ok(Running {
-                program,
-                cabinet,
-                memory,
-                phase: Phase::Idle,
-            })
-        }
-        Err(e) => Err((cabinet, e)),
-    }
+    let mut fitted = match Fitted::fresh(program, heap) {
+        Ok(fitted) => fitted,
+        Err(e) => return Err((cabinet, e)),
+    };
+    fitted.pass(Module::Init);
+    fitted.send_outputs(&mut cabinet);
+    Ok(Running {
+        fitted,
+        cabinet,
+        phase: Phase::Idle,
+    })
 }
 
-/// Puts the points of the block modules to their first lines.
-fn return_block_points(program: &Accepted, memory: &mut Memory)
-    ensures { memory_of memory.new ≡ block_points_back (program_of program.now) (memory_of memory.old) }
+/// The answer of a call that can be refused.
+fn answered(outcome: Result<Phase, CallFault>) -> Answer
+    ensures { MatchResult outcome (λ phase. result ≡ Done phase) (λ fault. result ≡ Refused fault.rule fault.phase) }
 {
-    memory.init_point = program.formed.starts[1];
-    memory.done_point = program.formed.starts[2];
-}
-
-/// The phase that a position report sets, by ZAV_FCE, which is bit 128.
-fn phase_after_report(memory: &Memory) -> Phase
-    requires { 17 ≤ vec_len memory.now.bytes }
-    ensures { result ≡ after_report (zav_fce (memory_of memory.now)) }
-{
-    if bit_at(&memory.bytes, 128) {
-        Phase::Closing
-    } else {
-        Phase::Idle
-    }
+    outcome.map_or_else(Answer::from, |phase| Answer::Done { phase })
 }
 
 impl<C: Cabinet> Running<'_, C> {
@@ -72,9 +53,9 @@ impl<C: Cabinet> Running<'_, C> {
     pub fn scan(&mut self) -> ScanAnswer
         ensures { Called C.Cabinet.meaning self.old Scan (Scanned result.steps result.phase) self.new }
     {
-        let answer = scan_memory(self.program, &self.cabinet, &mut self.memory, self.phase);
+        let answer = self.fitted.scan(&self.cabinet, self.phase);
         self.phase = answer.phase;
-        send_outputs(&mut self.cabinet, &self.memory);
+        self.fitted.send_outputs(&mut self.cabinet);
         self.cabinet.advance();
         answer
     }
@@ -83,10 +64,10 @@ impl<C: Cabinet> Running<'_, C> {
     pub fn clear(&mut self) -> Phase
         ensures { Called C.Cabinet.meaning self.old Clear (Done result) self.new }
     {
-        let _ = pass(self.program, 5, &mut self.memory);
-        return_block_points(self.program, &mut self.memory);
+        self.fitted.pass(Module::Clear);
+        self.fitted.return_block_points();
         self.phase = Phase::Idle;
-        send_outputs(&mut self.cabinet, &self.memory);
+        self.fitted.send_outputs(&mut self.cabinet);
         Phase::Idle
     }
 
@@ -112,9 +93,8 @@ impl<C: Cabinet> Running<'_, C> {
     {
         match self.phase {
             Phase::Moving => {
-                let after = phase_after_report(&self.memory);
-                self.phase = after;
-                Ok(after)
+                self.phase = self.fitted.phase_after_report();
+                Ok(self.phase)
             }
             phase => Err(CallFault {
                 rule: Rule::ReportOutsidePhase2,
@@ -124,20 +104,19 @@ impl<C: Cabinet> Running<'_, C> {
     }
 
     /// The halt: runs HALT and sends the outputs. What is left has no call.
-    pub fn halt(self) -> Halted<C>
+    pub fn halt(self) -> Left<C>
         ensures { HaltedFrom C.Cabinet.meaning self.entry result }
     {
         let Running {
-            program,
+            mut fitted,
             mut cabinet,
-            mut memory,
             phase,
         } = self;
-        let _ = pass(program, 6, &mut memory);
-        send_outputs(&mut cabinet, &memory);
-        Halted {
+        fitted.pass(Module::Halt);
+        fitted.send_outputs(&mut cabinet);
+        Left {
             cabinet,
-            memory,
+            memory: fitted.memory,
             phase,
         }
     }
@@ -147,51 +126,38 @@ impl<C: Cabinet> Running<'_, C> {
         ensures { Called C.Cabinet.meaning self.old (call_of call) result self.new }
     {
         match call {
-            SessionCall::Scan => {
-                let ScanAnswer { steps, phase } = self.scan();
-                Answer::Scanned { steps, phase }
-            }
-            SessionCall::Clear => {
-                let phase = self.clear();
-                Answer::Done { phase }
-            }
-            SessionCall::BlockStart => match self.block_start() {
-                Ok(phase) => Answer::Done { phase },
-                Err(fault) => Answer::Refused {
-                    rule: fault.rule,
-                    phase: fault.phase,
-                },
+            SessionCall::Scan => self.scan().into(),
+            SessionCall::Clear => Answer::Done {
+                phase: self.clear(),
             },
-            SessionCall::PositionReport => match self.position_report() {
-                Ok(phase) => Answer::Done { phase },
-                Err(fault) => Answer::Refused {
-                    rule: fault.rule,
-                    phase: fault.phase,
-                },
-            },
+            SessionCall::BlockStart => answered(self.block_start()),
+            SessionCall::PositionReport => answered(self.position_report()),
         }
     }
 
     /// Leaves a running program as it is, and hands its cabinet, memory and phase over.
-    pub fn into_parts(self) -> (C, Memory, Phase)
-        ensures { (result.0 ≡ self.entry.cabinet) × (result.1 ≡ self.entry.memory) × (result.2 ≡ self.entry.phase) }
+    pub fn into_parts(self) -> Left<C>
+        ensures { result ≡ record { cabinet = self.entry.cabinet; memory = self.entry.fitted.memory; phase = self.entry.phase } }
     {
         let Running {
-            program: _,
+            fitted,
             cabinet,
-            memory,
             phase,
         } = self;
-        (cabinet, memory, phase)
+        Left {
+            cabinet,
+            memory: fitted.memory,
+            phase,
+        }
     }
 
     /// Tells an observer of the start, or of a call that was made, and what it answered.
     pub(crate) fn show<O: Observer>(&self, observer: &mut O, call: Option<Call>, answer: Answer) {
-        observer.note(call, answer, &self.memory, terminals(&self.cabinet));
+        observer.note(call, answer, &self.fitted.memory, terminals(&self.cabinet));
     }
 }
 
-impl<C: Cabinet> Halted<C> {
+impl<C: Cabinet> Left<C> {
     /// Tells an observer of the halt, and what it answered.
     pub(crate) fn show<O: Observer>(&self, observer: &mut O, answer: Answer) {
         observer.note(

@@ -1,55 +1,66 @@
 // The tables of a program, and what they say of a line.
-ghost use Rattle.std.specs.Prelude.{◌≡◌, ◌<◌, IfOk, vec_len, Decides};
-ghost use Rattle.rules.specs.Program.{module_first, unit_of, Own};
+ghost use Rattle.std.specs.Prelude.{◌≡◌, ◌<◌, IfOk, Decides};
+ghost use Rattle.rules.specs.Program.{module_first, module_end, Own};
+ghost use Rattle.rules.specs.Named.{module_number, unit_named};
 ghost use Rattle.image.specs.Held.{meant};
+ghost use Rattle.text.specs.Placed.{Stands};
+ghost use Rattle.text.specs.Verdicts.{Keeps};
 
 use crate::layout::Layout;
-use crate::marks::Marks;
-use crate::numbers::{MECH_BEGIN, MECH_END};
-use crate::tables::{first_lines, starts};
+use crate::layout::placed::Placed;
+use crate::marks::marking::marks_of;
+use crate::tables::{brackets, starts};
 use image::program::Program;
-use rules::unit::UnitId;
+use rules::unit::{Module, UnitId};
 use std::alloc::{AllocError, Global};
 
 impl Layout {
-    // Makes the tables of a program.
+    // Makes the tables of a program whose lines each keep their own rules.
     pub(crate) fn new(heap: Global, program: Program) -> Result<Layout, AllocError>
+        requires { Keeps (meant program) 8 }
         ensures { IfOk result (λ v. v.program ≡ program) }
     {
         let starts = starts(heap, &program)?;
-        let begins = first_lines(heap, &program, MECH_BEGIN)?;
-        let ends = first_lines(heap, &program, MECH_END)?;
-        let Marks { units, flags } = Marks::new(heap, &program, starts.as_slice())?;
+        let brackets = brackets(heap, &program)?;
+        let marks = marks_of(heap, &program, starts.as_slice())?;
         Ok(Layout {
             program,
             starts,
-            begins,
-            ends,
-            flags,
-            units,
+            brackets,
+            marks,
         })
     }
 
-    // The first line of a module, or the number of lines for the module after the last.
-    pub(crate) fn start_of(&self, module: usize) -> usize
-        requires { «module» < 8 }
-        ensures { result ≡ module_first (meant self.now.program) «module» }
+    /// The first line of a module.
+    pub fn start_of(&self, m: Module) -> usize
+        ensures { result ≡ module_first (meant self.now.program) (module_number m) }
     {
-        self.starts[module]
+        self.starts[usize::from(m)]
     }
 
-    // The unit of a line.
-    pub(crate) fn unit_at(&self, line: usize) -> UnitId
-        requires { line < vec_len self.now.program.lines }
-        ensures { result ≡ unit_of (meant self.now.program) line }
+    /// The end of a module, which is the line after its last.
+    pub fn end_of(&self, m: Module) -> usize
+        ensures { result ≡ module_end (meant self.now.program) (module_number m) }
     {
-        self.units[line]
+        self.starts[usize::from(m) + 1]
+    }
+
+    // A line with its unit, or none where the text has no such line.
+    pub(crate) fn at(&self, place: usize) -> Option<Placed>
+        ensures { Stands (meant self.now.program) place result }
+    {
+        let line = *self.program.lines.get(place)?;
+        let mark = self.marks.get(place)?;
+        Some(Placed {
+            line,
+            unit: mark.unit,
+        })
     }
 
     // Whether a line is one of a unit's own.
-    pub(crate) fn owns(&self, unit: UnitId, line: usize) -> bool
-        ensures { Decides result (Own (meant self.now.program) unit line) }
+    pub(crate) fn owns(&self, unit: UnitId, place: usize) -> bool
+        ensures { Decides result (Own (meant self.now.program) (unit_named unit) place) }
     {
-        line < self.program.lines.len() && self.unit_at(line) == unit
+        self.at(place).is_some_and(|x| x.unit == unit)
     }
 }

@@ -1,98 +1,99 @@
 // The marks of a text, module by module.
 ghost use Rattle.std.specs.Prelude.{◌≡◌, ◌<◌, [], ◌∷◌, length, IfOk, vec_len, OnOk};
-ghost use Rattle.rules.specs.Program.{open_after, flag_after, main_or, module_first, module_end};
+ghost use Rattle.rules.specs.Program.{open_after, clears_flag, flag_after, main_or, module_first, module_end};
+ghost use Rattle.rules.specs.Named.{module_number, unit_named};
 ghost use Rattle.image.specs.Held.{meant};
 ghost use Rattle.text.specs.Marks.{Marked};
 ghost use Rattle.text.specs.Tables.{StartsAre};
 
-use crate::marks::Marks;
-use crate::numbers::{MAIN, MECH_BEGIN, MECH_END};
+use crate::marks::Mark;
 use image::program::Program;
 use rules::line::Line;
-use rules::unit::UnitId;
+use rules::op::Mnemonic;
+use rules::unit::{Module, UnitId};
 use std::alloc::{AllocError, Global};
 
 // The mechanism that is open after a line.
 fn open_after(opened: Option<usize>, line: Line) -> Option<usize>
     ensures { result ≡ open_after opened (line ∷ []) }
 {
-    match line.code {
-        MECH_BEGIN => Some(usize::from(line.operand)),
-        MECH_END => None,
-        _ => opened,
+    if line.is(Mnemonic::MechBegin) {
+        Some(usize::from(line.operand))
+    } else if line.is(Mnemonic::MechEnd) {
+        None
+    } else {
+        opened
     }
+}
+
+// Whether a line clears the text flag.
+fn clears_flag(line: Line) -> bool
+    ensures { result ≡ clears_flag line }
+{
+    line.is(Mnemonic::MechBegin)
+        || line.is(Mnemonic::MechEnd)
+        || line.is_jump()
+        || line.is_exit()
+        || line.is(Mnemonic::Wr)
+        || line.is(Mnemonic::Fl1)
 }
 
 // The text flag after a line.
 fn flag_after(flag: bool, line: Line) -> bool
     ensures { result ≡ flag_after flag (line ∷ []) }
 {
-    match line.code {
-        1 => true,
-        6 | 8..=13 | 22..=23 => false,
-        _ => flag,
-    }
+    !clears_flag(line) && (line.is(Mnemonic::Ldr) || flag)
 }
 
 // The mechanism that is open, or else MAIN.
 fn main_or(opened: Option<usize>) -> UnitId
-    ensures { result ≡ main_or opened }
+    ensures { unit_named result ≡ main_or opened }
 {
-    match opened {
-        None => UnitId::Module(MAIN),
-        Some(k) => UnitId::Mechanism(k),
-    }
+    opened.map_or(UnitId::Module(Module::Main), UnitId::Mechanism)
 }
 
-impl Marks {
-    // The marks of all lines, from the first line of each module.
-    pub(crate) fn new(
-        heap: Global,
-        program: &Program,
-        starts: &[usize],
-    ) -> Result<Marks, AllocError>
-        requires count { length starts.now ≡ 8 }
-        requires are { StartsAre (meant program.now) starts.now }
-        ensures { IfOk result (λ m. Marked (meant program.now) m (vec_len program.now.lines)) }
-    {
-        let mut marks = Marks {
-            units: Vec::new(heap),
-            flags: Vec::new(heap),
-        };
-        for module in 0..7 {
-            marks.mark_module(program, module, starts[module], starts[module + 1])?;
-        }
-        Ok(marks)
+// The marks of all lines, from the first line of each module.
+pub(crate) fn marks_of(
+    heap: Global,
+    program: &Program,
+    starts: &[usize],
+) -> Result<Vec<Mark>, AllocError>
+    requires count { length starts.now ≡ 8 }
+    requires are { StartsAre (meant program.now) starts.now }
+    ensures { IfOk result (λ m. Marked (meant program.now) m.items (vec_len program.now.lines)) }
+{
+    let mut marks = Vec::new(heap);
+    for module in &Module::ALL {
+        let n = usize::from(*module);
+        mark_module(&mut marks, program, *module, starts[n], starts[n + 1])?;
     }
+    Ok(marks)
+}
 
-    // Goes through the lines of a module, which finds the text flag clear and no mechanism open.
-    fn mark_module(
-        &mut self,
-        program: &Program,
-        module: usize,
-        first: usize,
-        end: usize,
-    ) -> Result<(), AllocError>
-        requires module { «module» < 7 }
-        requires first { first ≡ module_first (meant program.now) «module» }
-        requires end { end ≡ module_end (meant program.now) «module» }
-        requires marked { Marked (meant program.now) self.old first }
-        ensures { OnOk result (Marked (meant program.now) self.new end) }
-    {
-        let mut opened = None;
-        let mut flag = false;
-        for i in first..end {
-            let line = program.lines[i];
-            let unit = if module == MAIN {
-                main_or(opened)
-            } else {
-                UnitId::Module(module)
-            };
-            self.units.push(unit)?;
-            self.flags.push(flag)?;
-            opened = open_after(opened, line);
-            flag = flag_after(flag, line);
-        }
-        Ok(())
+// Goes through the lines of a module, which finds the text flag clear and no mechanism open.
+fn mark_module(
+    marks: &mut Vec<Mark>,
+    program: &Program,
+    module: Module,
+    first: usize,
+    end: usize,
+) -> Result<(), AllocError>
+    requires first { first ≡ module_first (meant program.now) (module_number «module») }
+    requires end { end ≡ module_end (meant program.now) (module_number «module») }
+    requires marked { Marked (meant program.now) marks.old.items first }
+    ensures { OnOk result (Marked (meant program.now) marks.new.items end) }
+{
+    let mut opened = None;
+    let mut flag = false;
+    for line in &program.lines[first..end] {
+        let unit = if module == Module::Main {
+            main_or(opened)
+        } else {
+            UnitId::Module(module)
+        };
+        marks.push(Mark { unit, flag })?;
+        opened = open_after(opened, *line);
+        flag = flag_after(flag, *line);
     }
+    Ok(())
 }

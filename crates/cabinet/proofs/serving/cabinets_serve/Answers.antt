@@ -1,10 +1,11 @@
-use Rattle.std.proofs.Common.{ℕ, ◌+◌, List, drop, vec_items, refl}
+use Rattle.std.proofs.Common.{ℕ, ◌+◌, List, drop, vec_items, refl, arith, length-drop}
 use Rattle.rules.specs.Cabinet.{Eight, Serving}
 use Rattle.cabinet.specs.declared.eight.EightBytes.{EightBytes}
 use Rattle.cabinet.specs.declared.stimulus.Stimulus.{Stimulus}
 use Rattle.cabinet.specs.Meanings.{patch_meaning, stimulus_meaning}
 use Rattle.cabinet.specs.Rows.{applied, due, next_number}
 use Rattle.cabinet.proofs.Bytes.{applied_eight}
+use Rattle.cabinet.proofs.Rows.{due_within}
 use Rattle.cabinet.proofs.serving.cabinets_serve.Goals as goal
 
 -- eight bytes as a cabinet holds them
@@ -19,7 +20,7 @@ patch_serves = record {
 
 module _ (s : Stimulus) where
   abbrev sent : (bytes : List ℕ) → Eight bytes → Stimulus
-  sent bytes e = record { rows = s.rows; cursor = s.cursor; number = s.number; inputs = s.inputs; terminals = held bytes e }
+  sent bytes e = record { rows = s.rows; cursor = s.cursor; number = s.number; inputs = s.inputs; terminals = held bytes e; within = s.within }
 
   abbrev advanced : Stimulus
   advanced =
@@ -31,6 +32,7 @@ module _ (s : Stimulus) where
         number = n;
         inputs = held (applied n left s.inputs.bytes) (applied_eight n left s.inputs.bytes (record { eight = s.inputs.eight; small = s.inputs.small }));
         terminals = s.terminals;
+        within = omega (arith, due_within n left, length-drop s.cursor (vec_items s.rows), s.rows.ok.0, s.within);
       }
 
 stimulus_serves : Serving stimulus_meaning

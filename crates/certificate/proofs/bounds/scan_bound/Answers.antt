@@ -1,20 +1,13 @@
 use Rattle.std.proofs.Common.{ℕ, ◌+◌, List, get_or, sym, subst, arith, lit<}
-use Rattle.rules.specs.declared.unit.UnitId.TheVariants.{Mechanism}
-use Rattle.rules.specs.Program.{main_module}
+use Rattle.rules.specs.Unit.{Mechanism}
 use Rattle.rules.specs.Route.{Takes, ScanTakes, Greatest}
 use Rattle.image.specs.Held.{meant}
-use Rattle.text.proofs.Shape.{shaped}
-use Rattle.theory.proofs.Text.{named}
 use Rattle.certificate.proofs.Scanning.{few_steps, scan_greatest}
 use Rattle.certificate.proofs.bounds.scan_bound.Goals as goal
 
-pub bound_of-requires-4 : goal.bound_of-requires-4
-bound_of-requires-4 c =
-    let p = c.args.formed.now.program in
-    record {
-      real = named (meant p) (shaped p) main_module (lit< tt);
-      bounded = λ e k h. subst (λ (xs : List ℕ). Greatest (Takes (meant p) (Mechanism k)) (get_or xs k 0)) (sym c.deref-4.ensures.value) (c.in_ok-bounds.ensures.each k h);
-    }
+pub bound_of-requires-4-clause-bounded : goal.bound_of-requires-4-clause-bounded
+bound_of-requires-4-clause-bounded c e k h =
+    subst (λ (xs : List ℕ). Greatest (Takes (meant c.args.formed.now.layout.program) (Mechanism k)) (get_or xs k 0)) (sym c.deref-4.ensures.value) (c.in_ok-bounds.ensures.each k h)
 
 pub overflow_add-result : goal.overflow_add-result
 overflow_add-result c =
@@ -35,6 +28,6 @@ overflow_add-result-2 c =
 
 pub returns : goal.returns
 returns c =
-    let p = meant c.args.formed.now.program in
+    let p = meant c.args.formed.now.layout.program in
     subst (λ (n : ℕ). Greatest (ScanTakes p) (c.in_ok-input.input + n + c.in_ok-main.main)) (sym c.max.ensures)
     (scan_greatest p c.in_ok-input.ensures c.in_ok-block_init.ensures c.in_ok-block_done.ensures c.in_ok-main.ensures)

@@ -4,5 +4,5 @@ use Rattle.certificate.proofs.scan.longer_block.Goals as goal
 pub returns-then-block_init-block_done : goal.returns-then-block_init-block_done
 returns-then-block_init-block_done c = longer_done _ c.in_ok-block_init.ensures c.in_ok-block_done.ensures c.if-block_init-block_done.true
 
-pub returns : goal.returns
-returns c = longer_init _ c.in_ok-block_init.ensures c.in_ok-block_done.ensures c.if-block_init-block_done.false
+pub returns-else-block_init-block_done : goal.returns-else-block_init-block_done
+returns-else-block_init-block_done c = longer_init _ c.in_ok-block_init.ensures c.in_ok-block_done.ensures c.if-block_init-block_done.false

@@ -1,19 +1,13 @@
-use Rattle.std.proofs.Common.{◌≡◌, ◌<◌, length, ◌∙◌, arith}
-use Rattle.std.specs.Slice.Iter.{chunks_exact_rest}
-use Rattle.image.proofs.Pairs.{grown, lines_join, lines_done}
+use Rattle.std.proofs.Common.{◌≡◌, ℕ, ◌/◌, List, map, length, vec_items, subst, ap, ◌∙◌, rules}
+use Rattle.std.specs.Result.{IfOk}
+use Rattle.std.proofs.lemmas.Iterator.{YieldsList-from_slice, YieldsList-from_map, items_from_collect}
+use Rattle.rules.specs.declared.line.Line.{Line}
+use Rattle.rules.specs.Image.{line_from}
+use Rattle.image.proofs.Pairs.{lines_are}
 use Rattle.image.proofs.making.read_lines.Goals as goal
-
-pub loop-record-preserved : goal.loop-record-preserved
-loop-record-preserved c =
-    let step = c.in-Some.ensures.steps in
-    let inv = c.loop-record.invariant in
-    let four : length c.in-Some.record.now ≡ 4 = (let a = step.1.1 in let b = inv.0 in omega arith) in (
-      step.0 ∙ inv.0,
-      grown _ _ _ _ _ _ c.in_ok-push.ensures.items (lines_join _ _ _ _ step.1.0 four c.pair-operand.ensures) inv.1,
-    )
 
 pub returns : goal.returns
 returns c =
-    let inv = c.loop-record.invariant in
-    let few : length (chunks_exact_rest c.loop-record.record-iterator) < 4 = omega (arith, c.in-None.ensures.steps) in
-    lines_done _ _ _ few inv.1
+    let lines = ap (λ (rs : List (List ℕ)). map (λ r. line_from r 0) rs) c.as_chunks.ensures.front ∙ lines_are c.args.bytes.now (length c.args.bytes.now / 4) 0 in
+    subst (λ (l : List Line). IfOk c.collect.result (λ v. vec_items v ≡ l)) lines
+    (items_from_collect c.collect.result c.collect.ensures.ran (YieldsList-from_map _ (λ r. line_from r 0) (YieldsList-from_slice c.as_chunks.result.0.now cc) c.map.ensures.closure (λ x r q k. search rules)))

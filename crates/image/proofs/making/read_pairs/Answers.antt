@@ -1,19 +1,7 @@
-use Rattle.std.proofs.Common.{◌≡◌, ◌<◌, length, ◌∙◌, arith}
-use Rattle.std.specs.Slice.Iter.{chunks_exact_rest}
-use Rattle.image.proofs.Pairs.{grown, pairs_join, pairs_done}
+use Rattle.std.proofs.Common.{◌≡◌, ℕ, ◌/◌, List, length, vec_items, subst, rules}
+use Rattle.std.specs.Result.{IfOk}
+use Rattle.image.proofs.Pairs.{pairs_are}
 use Rattle.image.proofs.making.read_pairs.Goals as goal
 
-pub loop-record-preserved : goal.loop-record-preserved
-loop-record-preserved c =
-    let step = c.in-Some.ensures.steps in
-    let inv = c.loop-record.invariant in
-    let two : length c.in-Some.record.now ≡ 2 = (let a = step.1.1 in let b = inv.0 in omega arith) in (
-      step.0 ∙ inv.0,
-      grown _ _ _ _ _ _ c.in_ok-push.ensures.items (pairs_join _ _ _ _ step.1.0 two c.pair-n.ensures) inv.1,
-    )
-
 pub returns : goal.returns
-returns c =
-    let inv = c.loop-record.invariant in
-    let few : length (chunks_exact_rest c.loop-record.record-iterator) < 2 = omega (arith, c.in-None.ensures.steps) in
-    pairs_done _ _ _ few inv.1
+returns c = subst (λ (l : List ℕ). IfOk c.collect.result (λ v. vec_items v ≡ l)) (pairs_are c.args.bytes.now (length c.args.bytes.now / 2) 0) (search rules)

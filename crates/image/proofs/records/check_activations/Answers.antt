@@ -1,57 +1,47 @@
-use Rattle.std.proofs.Common.{◌≡◌, ℕ, ◌+◌, ◌*◌, ◌<◌, ◌≤◌, length, sym, ap, ◌∙◌, subst, arith, length-drop, rules, below_more}
-use Rattle.std.specs.Slice.Iter.{chunks_exact_rest}
-use Rattle.std.specs.Iterator.Adapters.{enumerate_source, enumerate_count}
+use Rattle.std.proofs.Common.{◌≡◌, ℕ, ◌*◌, ◌/◌, ◌<◌, ◌≤◌, List, [], length, get_or, refl, ap, ◌∙◌, zero-add, sym, map, rules, arith}
+use Rattle.std.specs.Int.{w16, from_le_bytes}
+use Rattle.std.specs.List.{AllWithin, HoldsAt}
+use Rattle.std.specs.Option.{MatchOption}
+use Rattle.std.proofs.lemmas.Iterator.{YieldsList-from_slice, IsFirst-from_position}
+use Rattle.std.proofs.lemmas.List.{get_or-map}
+use Rattle.std.proofs.lemmas.Option.{MatchOption-at_none, MatchOption-at_some}
 use Rattle.rules.specs.Image.{pair_at}
-use Rattle.image.specs.declared.fault.ImageFault.TheVariants.{ActivationOutside}
-use Rattle.image.specs.Reading.{PairsBelow}
-use Rattle.image.proofs.Pairs.{rest_more, record_pair, record_within}
+use borrow.Author.Tests.{tests}
+use Rattle.theory.proofs.Images.{pairs_at}
+use Rattle.image.proofs.Pairs.{pairs_are}
 use Rattle.image.proofs.records.check_activations.Goals as goal
-use Rattle.image.proofs.records.check_activations.Goals.{After-from-bit}
+use Rattle.image.proofs.records.check_activations.Goals.{After-position-outside}
 
--- the number that a turn reads stands inside the part
-read : (c : After-from-bit) → (c.from-bit.result ≡ pair_at c.args.part.bytes.now (2 * enumerate_count c.loop-i.i-iterator)) × (2 * enumerate_count c.loop-i.i-iterator + 2 ≤ length c.args.part.bytes.now)
-read c =
-    let step = c.in-Some.ensures.steps in
-    let inv = c.loop-i.invariant in
-    let i = enumerate_count c.loop-i.i-iterator in
-    let two : length c.in-Some.record.now ≡ 2 = (let a = step.0.1.1 in let b = inv.2 in omega arith) in
-    let pair = record_pair _ _ _ _ i inv.3 step.0.1.0 two in
-    (omega arith, record_within _ _ _ _ i inv.3 step.0.1.0 two)
+-- the first record whose number is not below the limit
+first : (c : After-position-outside) → MatchOption c.position-outside.result (AllWithin (λ (r : List ℕ). from_le_bytes w16 r < c.args.bits) c.as_chunks.result.0.now 0 (length c.as_chunks.result.0.now)) (λ i. (i < length c.as_chunks.result.0.now) × HoldsAt (λ (r : List ℕ). c.args.bits ≤ from_le_bytes w16 r) c.as_chunks.result.0.now i × AllWithin (λ (r : List ℕ). from_le_bytes w16 r < c.args.bits) c.as_chunks.result.0.now 0 i)
+first c = IsFirst-from_position _ _ _ (λ (r : List ℕ). c.args.bits ≤ from_le_bytes w16 r) (λ (r : List ℕ). from_le_bytes w16 r < c.args.bits) c.position-outside.ensures.ran (YieldsList-from_slice c.as_chunks.result.0.now cc) (λ x q k. search (rules, tests)) (λ x q k. search (rules, tests))
 
-pub loop-i-preserved : goal.loop-i-preserved
-loop-i-preserved c =
-    let step = c.in-Some.ensures.steps in
-    let inv = c.loop-i.invariant in
+-- the number that such a record is
+number : (c : After-position-outside) (k : ℕ) → k < length c.args.part.bytes.now / 2 → from_le_bytes w16 (get_or c.as_chunks.result.0.now k []) ≡ pair_at c.args.part.bytes.now (2 * k)
+number c k h =
     let bytes = c.args.part.bytes.now in
-    let i = enumerate_count c.loop-i.i-iterator in
-    let here : pair_at bytes (2 * i) < c.args.bits = (let q = (read (goal.at.loop-i-preserved c).After-from-bit).0 in omega arith) in (
-      search rules,
-      search rules,
-      search rules,
-      rest_more _ _ _ _ i _ inv.3 step.0.1.0 (step.0.1.1 ∙ inv.2) step.2,
-      subst (PairsBelow bytes c.args.bits) (sym step.2) (below_more (λ (k : ℕ). pair_at bytes (2 * k) < c.args.bits) i inv.4 here),
-    )
+    let n = length bytes / 2 in
+    let few : k < length c.as_chunks.result.0.now = (let l = c.as_chunks.ensures.front_len in omega arith) in
+    let numbers = ap (map (from_le_bytes w16)) c.as_chunks.ensures.front ∙ pairs_are bytes n 0 in
+    sym (get_or-map (from_le_bytes w16) c.as_chunks.result.0.now k [] 0 few) ∙ ap (λ (l : List ℕ). get_or l k 0) numbers ∙ pairs_at bytes 0 n k h ∙ ap (pair_at bytes) (zero-add (2 * k))
 
-pub returns-then-bits-bit : goal.returns-then-bits-bit
-returns-then-bits-bit c =
-    let step = c.in-Some.ensures.steps in
-    let at = (goal.at.returns-then-bits-bit c).After-from-bit in
-    let i = enumerate_count c.loop-i.i-iterator in
-    let here = (read at).0 in
-    let inside = (read at).1 in
+pub returns-in-Some : goal.returns-in-Some
+returns-in-Some c =
+    let at = (goal.at.returns-in-Some c).After-position-outside in
+    let i = c.in-Some.i in
+    let found = MatchOption-at_some _ _ i c.in-Some.is (first at) in
+    let long = c.as_chunks.ensures.front_len in
+    let few : i < length c.args.part.bytes.now / 2 = omega arith in
     record {
       index = i;
-      within = omega arith;
-      before = c.loop-i.invariant.4;
-      outside = omega arith;
-      named = ap (λ (k : ℕ). ActivationOutside (c.args.part.offset + 2 * k)) step.1;
+      within = few;
+      before = λ k h. (let e = number at k (omega arith) in let q = found.2 k [] (omega arith) h in omega arith);
+      outside = (let e = number at i few in let q = found.1 [] in omega arith);
+      named = refl;
     }
 
-pub returns : goal.returns
-returns c =
-    let inv = c.loop-i.invariant in
-    let bytes = c.args.part.bytes.now in
-    let rest = chunks_exact_rest (enumerate_source c.loop-i.i-iterator) in
-    let few : length rest < 2 = omega (arith, c.in-None.ensures.steps.0.1.0) in
-    let long = ap length inv.3 ∙ length-drop (2 * enumerate_count c.loop-i.i-iterator) bytes in
-    λ k h. inv.4 k (omega arith)
+pub returns-in-None : goal.returns-in-None
+returns-in-None c =
+    let at = (goal.at.returns-in-None c).After-position-outside in
+    let none = MatchOption-at_none _ _ c.in-None.is (first at) in
+    λ k h. (let e = number at k h in let q = none k [] (omega arith) (let l = c.as_chunks.ensures.front_len in omega arith) in omega arith)

@@ -1,36 +1,44 @@
+use Rattle.std.proofs.Common.{rules, tests}
+use Rattle.std.proofs.lemmas.Result.{MatchResult-weaker}
 use Rattle.image.specs.Held.{meant}
 use Rattle.text.specs.Verdicts.{Keeps}
-use Rattle.text.proofs.Breaches.{refuse_8, past_8, refuse_9, past_9, refuse_10, past_10, refuse_11, past_11, named_by}
+use Rattle.text.proofs.Breaches.{refused, past, rule_8, rule_9, rule_10, rule_11}
 use Rattle.text.proofs.forming.check_layout.Goals as goal
-use Rattle.text.proofs.forming.check_layout.Goals.{In_default, In_default-first_bad_jump, In_default-first_bad_exit}
+use Rattle.text.proofs.forming.check_layout.Goals.{In_ok-refuse, In_ok-refuse-2, In_ok-refuse-3}
 
 -- what is kept past each rule
 
-keeps_9 : (c : In_default) → Keeps (meant c.args.layout.now.program) 9
-keeps_9 c = past_8 (meant c.args.layout.now.program) c.requires c.in_default.ensures
+keeps_9 : (c : In_ok-refuse) → Keeps (meant c.args.layout.now.program) 9
+keeps_9 c = past (rule_8 _) c.args.layout.now.keeps c.first_bad_mechanism.result c.first_bad_mechanism.ensures (search (rules, tests)) c.in_ok-refuse.ensures
 
-keeps_10 : (c : In_default-first_bad_jump) → Keeps (meant c.args.layout.now.program) 10
-keeps_10 c = past_9 (meant c.args.layout.now.program) (past_8 (meant c.args.layout.now.program) c.requires c.in_default.ensures) c.in_default-first_bad_jump.ensures
+keeps_10 : (c : In_ok-refuse-2) → Keeps (meant c.args.layout.now.program) 9 → Keeps (meant c.args.layout.now.program) 10
+keeps_10 c k = past (rule_9 _) k c.first_bad_jump.result c.first_bad_jump.ensures (search (rules, tests)) c.in_ok-refuse-2.ensures
 
-keeps_11 : (c : In_default-first_bad_exit) → Keeps (meant c.args.layout.now.program) 11
-keeps_11 c =
-    let p = meant c.args.layout.now.program in
-    past_10 p (past_9 p (past_8 p c.requires c.in_default.ensures) c.in_default-first_bad_jump.ensures) c.in_default-first_bad_exit.ensures
+keeps_11 : (c : In_ok-refuse-3) → Keeps (meant c.args.layout.now.program) 10 → Keeps (meant c.args.layout.now.program) 11
+keeps_11 c k = past (rule_10 _) k c.first_bad_exit.result c.first_bad_exit.ensures (search (rules, tests)) c.in_ok-refuse-3.ensures
 
-pub first_bad_mechanism-requires : goal.first_bad_mechanism-requires
-first_bad_mechanism-requires c = named_by (meant c.args.layout.now.program) c.requires
+pub returns-in_err-refuse : goal.returns-in_err-refuse
+returns-in_err-refuse c =
+    let h = refused (rule_8 (meant c.args.layout.now.program)) c.args.layout.now.keeps c.first_bad_mechanism.result c.first_bad_mechanism.ensures (search (rules, tests)) c.in_err-refuse.field-0.0 c.in_err-refuse.ensures in
+    search rules
 
-pub returns-in-Some : goal.returns-in-Some
-returns-in-Some c = refuse_8 (meant c.args.layout.now.program) c.requires c.in-Some.place c.in-Some.ensures
+pub returns-in_err-refuse-2 : goal.returns-in_err-refuse-2
+returns-in_err-refuse-2 c =
+    let k = keeps_9 (goal.at.returns-in_err-refuse-2 c).In_ok-refuse in
+    let h = refused (rule_9 (meant c.args.layout.now.program)) k c.first_bad_jump.result c.first_bad_jump.ensures (search (rules, tests)) c.in_err-refuse-2.field-0.0 c.in_err-refuse-2.ensures in
+    search rules
 
-pub returns-in-Some-first_bad_jump : goal.returns-in-Some-first_bad_jump
-returns-in-Some-first_bad_jump c = refuse_9 (meant c.args.layout.now.program) (keeps_9 (goal.at.returns-in-Some-first_bad_jump c).In_default) c.in-Some-first_bad_jump.line c.in-Some-first_bad_jump.ensures
-
-pub returns-in-Some-first_bad_exit : goal.returns-in-Some-first_bad_exit
-returns-in-Some-first_bad_exit c = refuse_10 (meant c.args.layout.now.program) (keeps_10 (goal.at.returns-in-Some-first_bad_exit c).In_default-first_bad_jump) c.in-Some-first_bad_exit.line c.in-Some-first_bad_exit.ensures
-
-pub returns-in-Some-first_bad_init : goal.returns-in-Some-first_bad_init
-returns-in-Some-first_bad_init c = refuse_11 (meant c.args.layout.now.program) (keeps_11 (goal.at.returns-in-Some-first_bad_init c).In_default-first_bad_exit) c.in-Some-first_bad_init.line c.in-Some-first_bad_init.ensures
+pub returns-in_err-refuse-3 : goal.returns-in_err-refuse-3
+returns-in_err-refuse-3 c =
+    let g = goal.at.returns-in_err-refuse-3 c in
+    let k = keeps_10 g.In_ok-refuse-2 (keeps_9 g.In_ok-refuse) in
+    let h = refused (rule_10 (meant c.args.layout.now.program)) k c.first_bad_exit.result c.first_bad_exit.ensures (search (rules, tests)) c.in_err-refuse-3.field-0.0 c.in_err-refuse-3.ensures in
+    search rules
 
 pub returns : goal.returns
-returns c = past_11 (meant c.args.layout.now.program) (keeps_11 (goal.at.returns c).In_default-first_bad_exit) c.in_default-first_bad_init.ensures
+returns c =
+    let p = meant c.args.layout.now.program in
+    let g = goal.at.returns c in
+    let k = keeps_11 g.In_ok-refuse-3 (keeps_10 g.In_ok-refuse-2 (keeps_9 g.In_ok-refuse)) in
+    MatchResult-weaker c.refuse-4.result c.refuse-4.ensures (λ _ h. past (rule_11 p) k c.first_bad_init.result c.first_bad_init.ensures (search (rules, tests)) h)
+    (λ e h. refused (rule_11 p) k c.first_bad_init.result c.first_bad_init.ensures (search (rules, tests)) e h)

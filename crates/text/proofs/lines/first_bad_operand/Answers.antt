@@ -1,14 +1,14 @@
-use Rattle.std.proofs.Common.{ℕ, List, get_or, subst, below_more}
-use Rattle.rules.specs.declared.line.Line.{Line}
+use Rattle.std.proofs.Common.{vec_items, rules, tests}
+use Rattle.std.proofs.lemmas.Iterator.{YieldsList-from_slice, IsFirst-from_position}
 use Rattle.rules.specs.Op.{decode}
-use Rattle.rules.specs.Program.{no_line}
-use Rattle.rules.specs.Form.{Reaches, IsBadOperand}
+use Rattle.rules.specs.Form.{Reaches}
 use Rattle.image.specs.Held.{meant}
+use Rattle.text.proofs.Searches.{finds_line}
 use Rattle.text.proofs.lines.first_bad_operand.Goals as goal
 
-pub loop-i-preserved : goal.loop-i-preserved
-loop-i-preserved c =
+pub returns : goal.returns
+returns c =
     let p = meant c.args.program.now in
-    let Here : List Line → Type 0 = λ xs. let x = get_or xs c.loop-i.i no_line in Reaches p x (decode x) in
-    below_more (λ (k : ℕ). IsBadOperand p k → ⊥) c.loop-i.i c.loop-i.invariant
-    (λ u. u.1 (subst Here c.deref-line-items.ensures.value (c.serves.ensures.0 c.if-not-serves.false)))
+    let xs = vec_items c.args.program.now.lines in
+    finds_line (λ x. Reaches p x (decode x) → ⊥) (λ x. Reaches p x (decode x)) (λ x y n. n y) xs c.position.result
+    (IsFirst-from_position _ _ c.position.result (λ x. Reaches p x (decode x) → ⊥) (λ x. Reaches p x (decode x)) c.position.ensures.ran (YieldsList-from_slice xs cc) (λ x q k. search (rules, tests)) (λ x q k. search (rules, tests)))

@@ -12,4 +12,4 @@ loop-length-preserved c =
     let inside : i < length ns = (let s = c.deref-length-items.ensures.len in omega arith) in
     let more = total-more ns i inside in
     let long = c.loop-length.starts.ok.0 in
-    (search rules, search rules, (let v = ap (λ ms. get_or ms i 0) c.deref-length-items.ensures.value in omega arith), filled_more (vec_items c.loop-length.starts) _ c.loop-length.sum 0 i (λ (m : ℕ). total (take m ns)) c.in_ok-push.ensures.items (omega arith) inv.3 inv.2)
+    (search rules, search rules, (let v = ap (λ ms. get_or ms i 0) c.deref-length-items.ensures.value in omega arith), filled_more (λ x. x) (vec_items c.loop-length.starts) _ c.loop-length.sum 0 i (λ (m : ℕ). total (take m ns)) c.in_ok-push.ensures.items (omega arith) inv.3 inv.2)

@@ -1,26 +1,24 @@
-use Rattle.std.proofs.Common.{◌≤◌, false, vec_items, refl, arith}
+use Rattle.std.proofs.Common.{Bool, true, false, Decides, MatchBool, refl}
 use Rattle.std.proofs.lemmas.Bool.{both_ways}
-use Rattle.walk.specs.UnitTexts.{program_of}
-use Rattle.verdict.proofs.Entries.{place, range, no_entry, own}
-use Rattle.verdict.proofs.Ranges.{bad_from, bad_to}
+use Rattle.verdict.proofs.Entries.{place, by_entry, in_entry, no_entry, own}
 use Rattle.verdict.proofs.depths.is_bad_line.Goals as goal
+
+told : {P Q : Type 0} (b : Bool) → (P → Q) → (Q → P) → Decides b P → MatchBool b Q (Q → ⊥)
+told true f g d = f (d.0 refl)
+told false f g d = λ x. both_ways false refl (d.1 (g x))
 
 pub misfits-requires : goal.misfits-requires
 misfits-requires c =
     let u = c.args.unit.now in
-    let t = vec_items c.args.table.now in
-    let h : c.args.l ≤ u.end = (let g = c.requires.high in omega arith) in
-    own u t c.requires.surveyed c.args.l c.requires.high (place u t c.requires.surveyed c.args.l c.requires.low h _ _ c.index.ensures c.in-Some.is)
+    let t = c.args.table.now in
+    own u t c.requires.surveyed c.args.l c.requires.high (place u t c.requires.surveyed c.args.l c.requires.low _ c.in-Some.is)
 
 pub returns-in-Some : goal.returns-in-Some
 returns-in-Some c =
     let u = c.args.unit.now in
-    let h : c.args.l ≤ u.end = (let g = c.requires.high in omega arith) in
-    let d = range u (vec_items c.args.table.now) c.requires.surveyed c.args.l c.requires.low h c.index.result.now (c.in-Some.field-0-0, c.in-Some.depths) c.index.ensures c.in-Some.is in
-    (λ e. bad_from (program_of u) u.id c.args.l c.in-Some.depths.0 c.in-Some.depths.1 d (c.misfits.ensures.0 e), λ b. c.misfits.ensures.1 (bad_to (program_of u) u.id c.args.l c.in-Some.depths.0 c.in-Some.depths.1 d b))
+    let t = c.args.table.now in
+    let s = c.requires.surveyed in
+    told c.misfits.result (by_entry u t s c.args.l c.requires.low _ c.in-Some.is) (in_entry u t s c.args.l c.requires.low _ c.in-Some.is) c.misfits.ensures
 
 pub returns-in-None : goal.returns-in-None
-returns-in-None c =
-    let u = c.args.unit.now in
-    let h : c.args.l ≤ u.end = (let g = c.requires.high in omega arith) in
-    (λ e. absurd (both_ways false refl e), λ b. absurd (no_entry u (vec_items c.args.table.now) c.requires.surveyed c.args.l c.requires.low h _ c.index.ensures c.in-None.is b))
+returns-in-None c = no_entry c.args.unit.now c.args.table.now c.requires.surveyed c.args.l c.in-None.is

@@ -4,15 +4,12 @@ use Rattle.image.specs.Held.{meant}
 use Rattle.text.specs.Finds.{Finds}
 use Rattle.text.proofs.Shape.{shaped}
 use Rattle.verdict.specs.Units.{IsBadAmong}
-use Rattle.verdict.proofs.Firsts.{none_yet, all_units}
+use Rattle.verdict.proofs.Firsts.{all_units}
 use Rattle.verdict.proofs.units.first_bad_line.Goals as goal
-
-pub loop-i-init : goal.loop-i-init
-loop-i-init c = none_yet (meant c.args.formed.now.program)
 
 pub returns : goal.returns
 returns c =
-    let q = c.args.formed.now.program in
+    let q = c.args.formed.now.layout.program in
     let p = meant q in
     let seven = ((shaped q).counts module_section).1 in
     let o = q.activation.ok.0 in

@@ -4,4 +4,4 @@ use Rattle.verdict.specs.Units.{IsBadAmong}
 use Rattle.verdict.proofs.units.first_bad_line.Given as goal
 
 abbrev pub invariant-loop-i : goal.invariant-loop-i
-invariant-loop-i l = Finds (IsBadAmong (meant l.formed.program) l.i) l.first
+invariant-loop-i l = Finds (IsBadAmong (meant l.formed.layout.program) l.i) l.first

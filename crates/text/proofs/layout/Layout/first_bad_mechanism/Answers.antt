@@ -13,6 +13,6 @@ returns-then-not-is_left_over c =
 pub returns : goal.returns
 returns c =
     let p = meant c.args.self.now.program in
-    let e = c.start_of-end.result in
+    let e = c.end_of-end.result in
     subst (λ (i : ℕ). Finds (IsBadMechanism p) (Some i)) (sym (c.min.ensures ∙ ap (λ (i : ℕ). min i e) c.unwrap_or.ensures))
-    (one_left p c.first_unpaired-unpaired.result e c.start_of-end.ensures c.first_unpaired-unpaired.ensures (c.is_left_over.ensures.0 c.if-not-is_left_over.false))
+    (one_left p c.first_unpaired-unpaired.result e c.end_of-end.ensures c.first_unpaired-unpaired.ensures (c.is_left_over.ensures.0 c.if-not-is_left_over.false))

@@ -1,13 +1,10 @@
-use Rattle.std.proofs.Common.{ℕ, below_more}
-use Rattle.std.proofs.lemmas.Bool.{both_ways}
+use Rattle.std.proofs.Common.{refl, arith, rules, tests}
 use Rattle.text.specs.Mechanisms.{Unpaired}
 use Rattle.image.specs.Held.{meant}
+use Rattle.text.proofs.Searches.{finds_place}
 use Rattle.text.proofs.layout.Layout.first_unpaired.Goals as goal
 
-pub loop-i-preserved : goal.loop-i-preserved
-loop-i-preserved c =
-    below_more (λ (k : ℕ). Unpaired (meant c.args.self.now.program) k → ⊥) c.loop-i.i c.loop-i.invariant
-    (λ b. both_ways c.is_unpaired.result c.if-is_unpaired.false (c.is_unpaired.ensures.1 b))
-
-pub returns-then-is_unpaired : goal.returns-then-is_unpaired
-returns-then-is_unpaired c = (c.is_unpaired.ensures.0 c.if-is_unpaired.true, c.loop-i.invariant)
+pub returns : goal.returns
+returns c =
+    let n = c.args.self.now.program.lines.ok.0 in
+    finds_place _ _ _ c.find.result (Unpaired (meant c.args.self.now.program)) c.find.ensures.ran refl (λ l h. omega (arith, h.0)) (λ l q k. search (rules, tests)) (λ l q k. search (rules, tests))

@@ -1,7 +1,0 @@
-use Rattle.std.proofs.Common.{ℕ, ◌<◌, ◌≤◌, vec_items}
-use Rattle.walk.specs.UnitTexts.{program_of}
-use Rattle.certificate.specs.Longest.{Leads}
-use Rattle.certificate.proofs.routes.previous.Given as goal
-
-abbrev pub invariant-loop-l : goal.invariant-loop-l
-invariant-loop-l l = (j : ℕ) → l.unit.first ≤ j → j < l.l → Leads (program_of l.unit) l.unit.id l.steps.bounds.now (vec_items l.table) l.m l.v j → ⊥

@@ -1,5 +1,0 @@
-use Rattle.std.proofs.lemmas.Nat.{and_mask}
-use Rattle.lines.proofs.numbers.low16.Goals as goal
-
-pub returns : goal.returns
-returns c = and_mask c.args.a 16
