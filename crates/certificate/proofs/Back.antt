@@ -1,9 +1,9 @@
 -- Going back along a longest route of a unit, by the table of its walk. Assumes nothing.
 use Rattle.std.proofs.Common.{◌≡◌, ℕ, ◌+◌, ◌-◌, ◌^◌, ◌<◌, ◌≤◌, min, max, List, [], ◌∷◌, ◌++◌, length, Some, None, MatchOption, Option, sym, refl, ap, ◌∙◌, subst, inl, inr, append_assoc, append-nil, arith}
-use Rattle.rules.specs.Unit.{UnitId}
+use Rattle.rules.specs.declared.unit.UnitId.{UnitId}
 use Rattle.std.proofs.Math.Logic.{∥∥₁_elim}
 use Rattle.std.proofs.Props.{props}
-use Rattle.std.specs.Option.{option_or, option_map_or}
+use Rattle.std.specs.Option.{option_map_or}
 use Rattle.rules.specs.Program.{Program, Own, line_at, first, end}
 use Rattle.rules.specs.Route.{Arrives, passed, Route, to_end, stopped, Greatest}
 use Rattle.walk.specs.Joins.{JoinOf}
@@ -48,6 +48,10 @@ module _ (p : Program) (u : UnitId) (sound : Sound p u) (bounds : List ℕ) (t :
   abbrev pub Ahead : ℕ → List ℕ → Option ℕ → Type 0
   Ahead n lines None = Traced p u bounds t n lines
   Ahead n lines (Some l) = (v : ℕ) × LongestAt p u t l v × GoesOn p u bounds n (lines ++ l ∷ []) l v
+
+  -- the newest line of a whole route that stops at it
+  pub newest_stop : (n l : ℕ) → Stops p u bounds t n l → Ahead n [] (Some l)
+  newest_stop n l s = (s.0.value, record { place = inl s.0.own; read = s.0.read }, from_stop n l s)
 
   pub from_place : (n m v : ℕ) (lines : List ℕ) (r : Option ℕ) → LongestAt p u t m v → GoesOn p u bounds n lines m v → Precedes p u bounds t m r → Ahead n lines r
   from_place n m v lines None at h e = record { from = m; begins = e; goes_on = subst (GoesOn p u bounds n lines m) (some_same at.read e.read) h }
@@ -134,8 +138,7 @@ module _ (p : Program) (u : UnitId) (sound : Sound p u) (bounds : List ℕ) (t :
         subst (LongestAt p u t m) e h
     before_place m v (Some l) h s = (v, h, s)
 
-    -- the newest line of a whole route: where it stops, or else the line before the end
-    pub newest : (n : ℕ) (stop last : Option ℕ) → JoinOf max (Whole 0 (steps_after bounds) p u) n → MatchOption stop ((l : ℕ) → Stops p u bounds t n l → ⊥) (λ l. Stops p u bounds t n l) → Precedes p u bounds t (end p u) last → Ahead n [] (option_or stop last)
-    newest n None last j none before =
+    -- the newest line of a whole route that stops at no line: the one before the end
+    pub newest : (n : ℕ) (last : Option ℕ) → JoinOf max (Whole 0 (steps_after bounds) p u) n → ((l : ℕ) → Stops p u bounds t n l → ⊥) → Precedes p u bounds t (end p u) last → Ahead n [] last
+    newest n last j none before =
         from_place n (end p u) n [] last (record { place = inr refl; read = ∥∥₁_elim kept (hlevel props) (λ w. unstopped w n j none) }) (from_end n) before
-    newest n (Some l) last j s before = (s.0.value, record { place = inl s.0.own; read = s.0.read }, from_stop n l s)

@@ -1,6 +1,6 @@
 -- What holds of a unit of one formed program holds of the same unit of the same program. Assumes nothing.
 use Rattle.std.proofs.Common.{◌≡◌, subst}
-use Rattle.rules.specs.Unit.{UnitId}
+use Rattle.rules.specs.declared.unit.UnitId.{UnitId}
 use Rattle.rules.specs.Program.{Program}
 use Rattle.image.specs.Held.{meant}
 use Rattle.text.specs.declared.formed.Formed.{Formed}

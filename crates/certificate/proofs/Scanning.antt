@@ -1,7 +1,7 @@
 -- The longest scan, from the bounds of its units, which are small. Assumes nothing.
 use Rattle.std.proofs.Common.{◌≡◌, ℕ, ◌+◌, ◌<◌, ◌≤◌, max, refl, subst, inl, inr, arith}
 use Rattle.std.proofs.lemmas.Bool.{cases_lt}
-use Rattle.rules.specs.Unit.{Module}
+use Rattle.rules.specs.declared.unit.UnitId.TheVariants.{Module}
 use Rattle.rules.specs.declared.unit.Module.TheVariants.{BlockInit, BlockDone}
 use Rattle.rules.specs.Program.{Program, input_module, block_init, block_done, main_module}
 use Rattle.rules.specs.Route.{Takes, BlockTakes, ScanTakes, Greatest}

@@ -1,6 +1,6 @@
 -- The greatest depth: of a table, of a unit's routes, and of the routes of all units. Assumes nothing.
 use Rattle.std.specs.Prelude.{◌≡◌, ℕ, ◌<◌, ◌≤◌, ◌⊎◌, List, ℤ, pos, ◌≤ℤ◌, Some, None, Option, slice_index_or}
-use Rattle.rules.specs.Unit.{UnitId}
+use Rattle.rules.specs.declared.unit.UnitId.{UnitId}
 use Rattle.rules.specs.Program.{Program}
 use Rattle.rules.specs.Route.{Arrives, depth}
 use Rattle.rules.specs.Verdict.{DepthOf}

@@ -1,6 +1,7 @@
 -- The longest routes: of the mechanisms, as a list of their steps, and of a unit, as it is found by going back. Assumes nothing.
 use Rattle.std.specs.Prelude.{◌≡◌, ℕ, ◌-◌, ◌<◌, Bool, true, false, List, ◌++◌, length, Some, None, Option, slice_index, slice_index_or}
-use Rattle.rules.specs.Unit.{UnitId, Mechanism}
+use Rattle.rules.specs.declared.unit.UnitId.{UnitId}
+use Rattle.rules.specs.declared.unit.UnitId.TheVariants.{Mechanism}
 use Rattle.rules.specs.Op.{is_exit}
 use Rattle.rules.specs.Program.{Program, Own, line_at, first}
 use Rattle.rules.specs.Route.{Way, Arrives, Route, Steps, Takes, Greatest}

@@ -1,7 +1,7 @@
 -- The routes of a longest scan. Assumes nothing.
 use Rattle.std.specs.Prelude.{◌≡◌, ℕ, ◌+◌, ◌<◌, ◌⊎◌, List, reverse, length, vec_items, Vec, slice_index_or}
 use Rattle.std.specs.declared.alloc.Global.{Global}
-use Rattle.rules.specs.Unit.{Module, Mechanism}
+use Rattle.rules.specs.declared.unit.UnitId.TheVariants.{Module, Mechanism}
 use Rattle.rules.specs.declared.unit.Module as named
 use Rattle.rules.specs.declared.unit.Module.TheVariants.{BlockInit, BlockDone}
 use Rattle.rules.specs.Named.{module_number}

@@ -9,7 +9,7 @@ ghost use Rattle.certificate.specs.Longest.{MechanismBounds};
 
 use crate::real_unit::real_unit;
 use measures::survey::unit_bound;
-use rules::unit::{Module, UnitId};
+use rules::unit::{Module, NamedUnit};
 use std::alloc::{AllocError, Global};
 use text::formed::Formed;
 
@@ -18,7 +18,7 @@ use text::formed::Formed;
 // steps, so a type could only keep that such routes exist, from which `unit_bound`'s `requires` does not follow
 pub(crate) fn bound_of(
     formed: &Formed,
-    id: UnitId,
+    id: NamedUnit,
     bounds: &[u32],
     heap: Global,
 ) -> Result<u32, AllocError>
@@ -35,7 +35,7 @@ pub fn mechanism_bounds(formed: &Formed, heap: Global) -> Result<Vec<u32>, Alloc
     ensures { IfOk result (λ v. MechanismBounds (meant formed.now.layout.program) v.items) }
 {
     (0..formed.layout.program.activation.len())
-        .map(|k| bound_of(formed, UnitId::Mechanism(k), &[], heap))
+        .map(|k| bound_of(formed, NamedUnit::Mechanism(k), &[], heap))
         .try_collect(heap)
 }
 
@@ -45,9 +45,9 @@ pub fn scan_bound(formed: &Formed, heap: Global) -> Result<u32, AllocError>
     ensures { IfOk result (λ n. Greatest (ScanTakes (meant formed.now.layout.program)) n) }
 {
     let bounds = mechanism_bounds(formed, heap)?;
-    let input = bound_of(formed, UnitId::Module(Module::Input), &bounds, heap)?;
-    let block_init = bound_of(formed, UnitId::Module(Module::BlockInit), &bounds, heap)?;
-    let block_done = bound_of(formed, UnitId::Module(Module::BlockDone), &bounds, heap)?;
-    let main = bound_of(formed, UnitId::Module(Module::Main), &bounds, heap)?;
+    let input = bound_of(formed, NamedUnit::Module(Module::Input), &bounds, heap)?;
+    let block_init = bound_of(formed, NamedUnit::Module(Module::BlockInit), &bounds, heap)?;
+    let block_done = bound_of(formed, NamedUnit::Module(Module::BlockDone), &bounds, heap)?;
+    let main = bound_of(formed, NamedUnit::Module(Module::Main), &bounds, heap)?;
     Ok(input + block_init.max(block_done) + main)
 }

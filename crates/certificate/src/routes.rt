@@ -71,6 +71,9 @@ impl Search<'_> {
         ensures { Precedes (program_of self.now.unit) (id_of self.now.unit) self.now.steps.bounds.now self.now.table.items m result }
     {
         let v = self.table[m - self.unit.first]?;
+        if v == 0 {
+            return None;
+        }
         (self.unit.first..m).find(|&l| self.leads(l, m, v))
     }
 
@@ -86,7 +89,10 @@ impl Search<'_> {
         requires { JoinOf max (Whole 0 (steps_after self.now.steps.bounds.now) (program_of self.now.unit) (id_of self.now.unit)) n }
         ensures { IfOk result (λ v. Traced (program_of self.now.unit) (id_of self.now.unit) self.now.steps.bounds.now self.now.table.items n v.items) }
     {
-        let mut next = self.last_stop(n).or(self.previous(self.unit.end));
+        let mut next = match self.last_stop(n) {
+            Some(l) => Some(l),
+            None => self.previous(self.unit.end),
+        };
         let mut lines = Vec::new(heap);
         // kept: `successors` has no end by its contract, so no `collect` of it is proved
         while let Some(l) = next {

@@ -11,7 +11,7 @@ use crate::bounds::{bound_of, mechanism_bounds};
 use crate::contents::LongestScan;
 use crate::real_unit::real_unit;
 use crate::routes::longest_route;
-use rules::unit::{Module, UnitId};
+use rules::unit::{Module, NamedUnit};
 use std::alloc::{AllocError, Global};
 use text::formed::Formed;
 use verdict::accepted::Accepted;
@@ -19,7 +19,7 @@ use verdict::accepted::Accepted;
 // A longest route of a unit that the program has.
 fn route_of(
     formed: &Formed,
-    id: UnitId,
+    id: NamedUnit,
     bounds: &[u32],
     heap: Global,
 ) -> Result<Vec<usize>, AllocError>
@@ -36,7 +36,7 @@ fn mechanism_routes(formed: &Formed, heap: Global) -> Result<Vec<Vec<usize>>, Al
     ensures { IfOk result (λ v. MechanismRoutes (meant formed.now.layout.program) v.items) }
 {
     (0..formed.layout.program.activation.len())
-        .map(|k| route_of(formed, UnitId::Mechanism(k), &[], heap))
+        .map(|k| route_of(formed, NamedUnit::Mechanism(k), &[], heap))
         .try_collect(heap)
 }
 
@@ -44,8 +44,8 @@ fn mechanism_routes(formed: &Formed, heap: Global) -> Result<Vec<Vec<usize>>, Al
 fn longer_block(formed: &Formed, heap: Global) -> Result<Module, AllocError>
     ensures { IfOk result (λ m. LongerBlock (meant formed.now.layout.program) m) }
 {
-    let block_init = bound_of(formed, UnitId::Module(Module::BlockInit), &[], heap)?;
-    let block_done = bound_of(formed, UnitId::Module(Module::BlockDone), &[], heap)?;
+    let block_init = bound_of(formed, NamedUnit::Module(Module::BlockInit), &[], heap)?;
+    let block_done = bound_of(formed, NamedUnit::Module(Module::BlockDone), &[], heap)?;
     Ok(if block_init < block_done {
         Module::BlockDone
     } else {
@@ -59,10 +59,10 @@ pub fn longest_scan(program: &Accepted, heap: Global) -> Result<LongestScan, All
 {
     let formed = &program.formed;
     let bounds = mechanism_bounds(formed, heap)?;
-    let input = route_of(formed, UnitId::Module(Module::Input), &bounds, heap)?;
+    let input = route_of(formed, NamedUnit::Module(Module::Input), &bounds, heap)?;
     let block_module = longer_block(formed, heap)?;
-    let block = route_of(formed, UnitId::Module(block_module), &bounds, heap)?;
-    let main = route_of(formed, UnitId::Module(Module::Main), &bounds, heap)?;
+    let block = route_of(formed, NamedUnit::Module(block_module), &bounds, heap)?;
+    let main = route_of(formed, NamedUnit::Module(Module::Main), &bounds, heap)?;
     let mechanisms = mechanism_routes(formed, heap)?;
     Ok(LongestScan {
         input,

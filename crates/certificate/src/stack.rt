@@ -7,7 +7,7 @@ ghost use Rattle.certificate.specs.Deepest.{CellsOf, Raised, Highest, Deepened, 
 
 use crate::real_unit::real_unit;
 use measures::survey::survey;
-use rules::unit::{Module, UnitId};
+use rules::unit::{Module, NamedUnit};
 use std::alloc::{AllocError, Global};
 use text::formed::Formed;
 
@@ -38,7 +38,7 @@ fn highest_depth(so_far: u32, table: &[Option<(u32, (i32, i32))>]) -> u32
 }
 
 // The larger of a number of cells and the greatest depth of a unit's routes.
-fn deepened(formed: &Formed, id: UnitId, so_far: u32, heap: Global) -> Result<u32, AllocError>
+fn deepened(formed: &Formed, id: NamedUnit, so_far: u32, heap: Global) -> Result<u32, AllocError>
     requires { Real (meant formed.now.layout.program) (unit_named id) }
     ensures { IfOk result (λ n. Deepened (meant formed.now.layout.program) (unit_named id) so_far n) }
 {
@@ -54,10 +54,10 @@ pub fn stack_of(formed: &Formed, heap: Global) -> Result<u32, AllocError>
     // kept: one loop over a row of all units would number them and take each number apart again, which is no plainer
     let mut stack = 0;
     for module in &Module::ALL {
-        stack = deepened(formed, UnitId::Module(*module), stack, heap)?;
+        stack = deepened(formed, NamedUnit::Module(*module), stack, heap)?;
     }
     for k in 0..formed.layout.program.activation.len() {
-        stack = deepened(formed, UnitId::Mechanism(k), stack, heap)?;
+        stack = deepened(formed, NamedUnit::Mechanism(k), stack, heap)?;
     }
     Ok(stack)
 }

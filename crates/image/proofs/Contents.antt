@@ -9,7 +9,8 @@ use Rattle.rules.specs.Form.{InRange, BitsInside, records}
 use Rattle.image.specs.declared.sections.Kind.{Kind}
 use Rattle.image.specs.declared.sections.Kind.TheVariants.{Data, Mechanisms, Modules, Lines}
 use Rattle.image.specs.declared.sections.Part.{Part}
-use Rattle.image.specs.Parts.{section_of, section_bytes}
+use Rattle.image.specs.declared.sections.Section.{Section}
+use Rattle.image.specs.Parts.{section_of, part_of, section_bytes}
 use Rattle.image.specs.Whole.{IsSection}
 use Rattle.theory.proofs.Images.{least, most, read, held, all_lines_counted}
 use Rattle.image.proofs.Pairs.{pairs_whole, lines_whole}
@@ -21,21 +22,24 @@ module _ (image : List ℕ) (sound : ImageSound image) where
       length-take-le (record_size s * count image s) (drop (section_place image s) image) (simp length-drop (omega arith))
 
   -- what the reader makes of each section is that part of the program
-  module _ (p : Part) where
-    long : (k : Kind) → IsSection image k p → length p.bytes.now ≡ record_size (section_of k) * count image (section_of k)
-    long k s = ap length s.bytes ∙ section_long (section_of k)
+  module _ (x : Section) (p : Part) (is : p ≡ part_of x) where
+    bytes_are : (k : Kind) → IsSection image k x → p.bytes.now ≡ section_bytes image (section_of k)
+    bytes_are k s = ap (λ (q : Part). q.bytes.now) is ∙ s.bytes
 
-    pub initial_is : IsSection image Data p → p.bytes.now ≡ (program_of image).initial
-    initial_is s = let q : 1 * count image data_section ≡ count image data_section = omega arith in s.bytes ∙ ap (λ (n : ℕ). take n (drop 2 image)) q
+    long : (k : Kind) → IsSection image k x → length p.bytes.now ≡ record_size (section_of k) * count image (section_of k)
+    long k s = ap length (bytes_are k s) ∙ section_long (section_of k)
 
-    pub activation_is : IsSection image Mechanisms p → pairs_from p.bytes.now 0 (length p.bytes.now / 2) ≡ (program_of image).activation
-    activation_is s = pairs_whole image p.bytes.now (section_place image mechanism_section) (count image mechanism_section) s.bytes (long Mechanisms s)
+    pub initial_is : IsSection image Data x → p.bytes.now ≡ (program_of image).initial
+    initial_is s = let q : 1 * count image data_section ≡ count image data_section = omega arith in bytes_are Data s ∙ ap (λ (n : ℕ). take n (drop 2 image)) q
 
-    pub lengths_are : IsSection image Modules p → pairs_from p.bytes.now 0 (length p.bytes.now / 2) ≡ (program_of image).lengths
-    lengths_are s = pairs_whole image p.bytes.now (section_place image module_section) (count image module_section) s.bytes (long Modules s)
+    pub activation_is : IsSection image Mechanisms x → pairs_from p.bytes.now 0 (length p.bytes.now / 2) ≡ (program_of image).activation
+    activation_is s = pairs_whole image p.bytes.now (section_place image mechanism_section) (count image mechanism_section) (bytes_are Mechanisms s) (long Mechanisms s)
 
-    pub lines_are : IsSection image Lines p → lines_from p.bytes.now 0 (length p.bytes.now / 4) ≡ (program_of image).lines
-    lines_are s = lines_whole image p.bytes.now (section_place image line_section) (count image line_section) s.bytes (long Lines s)
+    pub lengths_are : IsSection image Modules x → pairs_from p.bytes.now 0 (length p.bytes.now / 2) ≡ (program_of image).lengths
+    lengths_are s = pairs_whole image p.bytes.now (section_place image module_section) (count image module_section) (bytes_are Modules s) (long Modules s)
+
+    pub lines_are : IsSection image Lines x → lines_from p.bytes.now 0 (length p.bytes.now / 4) ≡ (program_of image).lines
+    lines_are s = lines_whole image p.bytes.now (section_place image line_section) (count image line_section) (bytes_are Lines s) (long Lines s)
 
   -- the shape of the program, of what has as many records and the same numbers
   pub in_range : (s : rules.Section) (n : ℕ) → n ≡ records (program_of image) s → InRange s n

@@ -1,8 +1,9 @@
 -- Records of two and of four bytes, one after another. Assumes nothing.
-use Rattle.std.proofs.Common.{◌≡◌, ℕ, zero, suc, ◌+◌, ◌*◌, ◌/◌, ◌<◌, ◌≤◌, List, ◌∷◌, map, length, get_or, take, drop, refl, ap, ◌∙◌, ap₂, add-zero, arith}
+use Rattle.std.proofs.Common.{◌≡◌, ℕ, zero, suc, ◌+◌, ◌*◌, ◌/◌, ◌<◌, ◌≤◌, List, [], ◌∷◌, map, length, get_or, take, drop, refl, ap, ◌∙◌, ap₂, add-zero, add-one, arith}
 use Rattle.std.proofs.lemmas.List.{get_or-take, get_or-drop, drop-drop}
 use Rattle.std.specs.Int.{w16, from_le_bytes}
 use Rattle.std.specs.Simd.{first_chunks}
+use Rattle.rules.specs.Program.{total}
 use Rattle.rules.specs.Image.{pair_at, pairs_from, line_from, lines_from}
 
 -- RECORDS IN A PART OF AN IMAGE
@@ -52,6 +53,14 @@ module _ (image b : List ℕ) (place n : ℕ) where
   lines_whole e long =
       let q : length b / 4 ≡ n = omega arith in
       ap (lines_from b 0) q ∙ lines_part image b place (4 * n) e n 0 (omega arith) ∙ ap (λ (l : ℕ). lines_from image l n) (add-zero place)
+
+-- SUMS
+
+-- one more number, added up
+pub total_more : (ns : List ℕ) (i : ℕ) → i < length ns → total (take (i + 1) ns) ≡ total (take i ns) + get_or ns i 0
+total_more [] i h = absurd (omega arith)
+total_more (n ∷ ns) zero h = omega arith
+total_more (n ∷ ns) (suc i) h = rw add-one (let q = rw add-one at (total_more ns i (omega arith)) in omega arith)
 
 -- RECORDS AS ARRAYS
 

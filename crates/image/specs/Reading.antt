@@ -7,7 +7,8 @@ use Rattle.image.specs.declared.fault.ImageFault.{ImageFault}
 use Rattle.image.specs.declared.fault.ImageFault.TheVariants.{TooShort, CountOutOfRange, ActivationOutside}
 use Rattle.image.specs.declared.sections.Kind.{Kind}
 use Rattle.image.specs.declared.sections.Part.{Part}
-use Rattle.image.specs.Parts.{section_of}
+use Rattle.image.specs.declared.sections.Section.{Section}
+use Rattle.image.specs.Parts.{section_of, kind_of, part_of}
 
 -- p is the part of an image that has n bytes from a place on
 pub record Stands (image : List ℕ) (place n : ℕ) (p : Part) : Type 0 where
@@ -20,11 +21,12 @@ pub record Counted (image : List ℕ) (place : ℕ) (s : rules.Section) : Type 0
   pub there : place + 2 ≤ length image
   pub range : InRange s (pair_at image place)
 
--- p is the section of kind k whose count stands at a place of an image
-pub record Found (image : List ℕ) (place : ℕ) (k : Kind) (p : Part) : Type 0 where
+-- x is the section of kind k whose count stands at a place of an image
+pub record Found (image : List ℕ) (place : ℕ) (k : Kind) (x : Section) : Type 0 where
   pub counted : Counted image place (section_of k)
+  pub kind : kind_of x ≡ k
   pub held : place + 2 + record_size (section_of k) * pair_at image place ≤ length image
-  pub part : Stands image (place + 2) (record_size (section_of k) * pair_at image place) p
+  pub part : Stands image (place + 2) (record_size (section_of k) * pair_at image place) (part_of x)
 
 -- the first thing that is wrong with the section whose count is to stand at a place of an image
 pub data Missing (image : List ℕ) (place : ℕ) (s : rules.Section) : ImageFault → Type 0 where

@@ -53,10 +53,10 @@ impl Image<'_> {
     pub fn program(&self, heap: Global) -> Result<Program, AllocError>
         ensures { IfOk result (λ p. meant p ≡ program_of self.now.bytes.now) }
     {
-        let initial = read_bytes(heap, self.data.bytes)?;
-        let activation = read_pairs(heap, self.mechanisms.bytes)?;
-        let lengths = read_pairs(heap, self.modules.bytes)?;
-        let lines = read_lines(heap, self.lines.bytes)?;
+        let initial = read_bytes(heap, self.data.part().bytes)?;
+        let activation = read_pairs(heap, self.mechanisms.part().bytes)?;
+        let lengths = read_pairs(heap, self.modules.part().bytes)?;
+        let lines = read_lines(heap, self.lines.part().bytes)?;
         Ok(Program {
             initial,
             activation,

@@ -2,13 +2,13 @@
 ghost use Rattle.std.specs.Prelude.{◌≡◌, ◌+◌, ◌*◌, ◌/◌, ◌<◌, ◌≤◌, length, MatchResult};
 ghost use Rattle.rules.specs.Image.{pair_at};
 ghost use Rattle.image.specs.declared.fault.ImageFault.TheVariants.{TooShort, BytesLeftOver};
-ghost use Rattle.image.specs.Parts.{section_of};
+ghost use Rattle.image.specs.Parts.{section_of, part_of};
 ghost use Rattle.image.specs.Refusals.{RefusedBy};
 ghost use Rattle.image.specs.Reading.{Stands, Counted, Found, Missing};
 
 use crate::fault::ImageFault;
 use crate::records::{check_activations, unit_starts};
-use crate::sections::{Image, Kind, Part};
+use crate::sections::{Image, Kind, Part, Section};
 
 // An image that is being read, and the place that the reading has come to.
 #[derive(Drop)]
@@ -49,12 +49,19 @@ impl<'a> Reader<'a> {
     }
 
     // The next section, which is of this kind, behind its count.
-    fn section(&mut self, kind: Kind) -> Result<Part<'a>, ImageFault>
+    fn section(&mut self, kind: Kind) -> Result<Section<'a>, ImageFault>
         ensures image { self.new.image.now ≡ self.old.image.now }
-        ensures section { MatchResult result (λ p. (self.new.place ≡ p.offset + length p.bytes.now) × Found self.old.image.now self.old.place kind p) (λ e. Missing self.old.image.now self.old.place (section_of kind) e) }
+        ensures section { MatchResult result (λ x. (self.new.place ≡ (part_of x).offset + length (part_of x).bytes.now) × Found self.old.image.now self.old.place kind x) (λ e. Missing self.old.image.now self.old.place (section_of kind) e) }
     {
         let n = self.count(kind)?;
-        self.part(kind.record_size() * n)
+        let part = self.part(kind.record_size() * n)?;
+        let section = match kind {
+            Kind::Data => Section::Data(part),
+            Kind::Mechanisms => Section::Mechanisms(part),
+            Kind::Modules => Section::Modules(part),
+            Kind::Lines => Section::Lines(part),
+        };
+        Ok(section)
     }
 
     // Refuses what is left over.
@@ -75,13 +82,13 @@ pub fn read_image(image: &[u8]) -> Result<Image<'_>, ImageFault>
     let mut reader = Reader { image, place: 0 };
     let data = reader.section(Kind::Data)?;
     let mechanisms = reader.section(Kind::Mechanisms)?;
-    check_activations(8 * data.bytes.len(), mechanisms)?;
+    check_activations(8 * data.part().bytes.len(), mechanisms.part())?;
     let modules = reader.section(Kind::Modules)?;
     let lines_at = reader.place;
     let lines = reader.section(Kind::Lines)?;
     reader.finish()?;
-    let (starts, total) = unit_starts(modules.bytes);
-    if total != lines.bytes.len() / 4 {
+    let (starts, total) = unit_starts(modules.part().bytes);
+    if total != lines.part().bytes.len() / 4 {
         return Err(ImageFault::WrongTotal(lines_at));
     }
     Ok(Image {

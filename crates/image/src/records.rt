@@ -1,13 +1,11 @@
 // The records of the mechanism and module sections.
-ghost use Rattle.std.specs.Prelude.{◌≡◌, ℕ, ◌+◌, ◌*◌, ◌/◌, ◌^◌, ◌<◌, ◌≤◌, length, take, sum_by, MatchResult, slice_index};
-ghost use Rattle.std.specs.Int.{w16, from_le_bytes};
+ghost use Rattle.std.specs.Prelude.{◌≡◌, ℕ, ◌+◌, ◌*◌, ◌/◌, ◌^◌, ◌<◌, length, take, MatchResult, slice_index};
 ghost use Rattle.rules.specs.Program.{total};
 ghost use Rattle.rules.specs.Image.{pairs_from};
 ghost use Rattle.image.specs.Reading.{PairsBelow, FirstOutside};
 
 use crate::fault::ImageFault;
 use crate::sections::Part;
-use std::array;
 
 // Refuses the first activation bit that is not one of the `bits` of the data.
 pub(crate) fn check_activations(bits: usize, part: Part<'_>) -> Result<(), ImageFault>
@@ -24,17 +22,7 @@ pub(crate) fn check_activations(bits: usize, part: Part<'_>) -> Result<(), Image
     }
 }
 
-// The sum of the lengths in the records of some modules.
-fn lines_of(records: &[[u8; 2]]) -> usize
-    requires { length records.now ≤ 7 }
-    ensures { result ≡ sum_by (from_le_bytes w16) records.now }
-{
-    records
-        .iter()
-        .map(|record| usize::from(u16::from_le_bytes(*record)))
-        .sum()
-}
-
+// kept: a rule of the project; the first lines are built by a loop over the module records with their index.
 // The first line of each module, and how many lines all have.
 pub(crate) fn unit_starts(modules: &[u8]) -> ([usize; 7], usize)
     requires { length modules.now ≡ 14 }
@@ -42,7 +30,11 @@ pub(crate) fn unit_starts(modules: &[u8]) -> ([usize; 7], usize)
     ensures lines { result.1 ≡ total (pairs_from modules.now 0 (length modules.now / 2)) }
 {
     let (records, _) = modules.as_chunks::<2>();
-    let starts = array::from_fn(|m| lines_of(&records[..m]));
-    let total = lines_of(records);
-    (starts, total)
+    let mut starts = [0; 7];
+    let mut sum = 0;
+    for (i, record) in records.iter().enumerate() {
+        starts[i] = sum;
+        sum += usize::from(u16::from_le_bytes(*record));
+    }
+    (starts, sum)
 }

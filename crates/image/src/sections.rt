@@ -3,7 +3,7 @@ ghost use Rattle.std.specs.Prelude.{◌≡◌, false};
 ghost use Rattle.std.specs.Range.{range_inclusive_start, range_inclusive_end, range_inclusive_exhausted};
 ghost use Rattle.rules.specs.Image.{record_size, least_count, most_count, program_of, ImageSound};
 ghost use Rattle.image.specs.declared.sections.Kind.TheVariants as kind;
-ghost use Rattle.image.specs.Parts.{section_of, StartsAre};
+ghost use Rattle.image.specs.Parts.{section_of, part_of, StartsAre};
 ghost use Rattle.image.specs.Whole.{IsSection};
 
 use std::ops::RangeInclusive;
@@ -51,15 +51,38 @@ pub struct Part<'a> {
     pub bytes: &'a [u8],
 }
 
-/// An image in its sections: its bytes, the part that the records of each section fill behind its count, and the first line of each
-/// module. The image breaks no rule of the image.
+// kept: a rule of the project; each section is a case that borrows its part of the image, with its offset.
+/// A section of an image: the part that its records fill, behind its count.
+#[derive(Clone, Copy)]
+pub enum Section<'a> {
+    Data(Part<'a>),
+    Mechanisms(Part<'a>),
+    Modules(Part<'a>),
+    Lines(Part<'a>),
+}
+
+impl<'a> Section<'a> {
+    /// The part of the image that this section is.
+    pub fn part(self) -> Part<'a>
+        ensures { result ≡ part_of self.entry }
+    {
+        match self {
+            Section::Data(part)
+            | Section::Mechanisms(part)
+            | Section::Modules(part)
+            | Section::Lines(part) => part,
+        }
+    }
+}
+
+/// An image in its sections: its bytes, the four sections, and the first line of each module. The image breaks no rule of the image.
 #[derive(Clone, Copy)]
 pub struct Image<'a> {
     pub bytes: &'a [u8],
-    pub data: Part<'a>,
-    pub mechanisms: Part<'a>,
-    pub modules: Part<'a>,
-    pub lines: Part<'a>,
+    pub data: Section<'a>,
+    pub mechanisms: Section<'a>,
+    pub modules: Section<'a>,
+    pub lines: Section<'a>,
     pub starts: [usize; 7],
     ghost sound: { ImageSound bytes.now },
     ghost data_is: { IsSection bytes.now kind.Data «data» },

@@ -159,7 +159,7 @@ mod tests {
         let Ok(parts) = read_image(&image) else {
             return Err(Fail::new("refused"));
         };
-        assert_eq!(rt; parts.lines.offset, 41);
+        assert_eq!(rt; parts.lines.part().offset, 41);
         let program = parts.program(rt.alloc())?;
         assert_eq!(rt; program.initial.len(), 17);
         assert!(rt; program.activation.len() == 1);

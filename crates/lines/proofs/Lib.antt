@@ -1,4 +1,3 @@
 pub mod Masks
-pub mod Words
 pub mod Cells
 pub mod OtherBits

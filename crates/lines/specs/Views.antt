@@ -1,15 +1,20 @@
 -- The registers, the turn and the effect of a line as the rules have them. Assumes nothing.
-use Rattle.std.specs.Prelude.{ℕ, Bool, false, List, [], Some, None, Option}
+use Rattle.std.specs.Prelude.{ℕ, Bool, false, List, [], reverse, take, Some, None, Option}
 use Rattle.rules.specs.declared.op.Op.{Op}
 use Rattle.rules.specs.Effect as rules
 use Rattle.rules.specs.Effect.{follows, goes, stops, waits, resumes, enters, skips, resets, Done, keeping, effect}
 use Rattle.lines.specs.declared.registers.Registers.{Registers}
+use Rattle.lines.specs.declared.stack.Stack.{Stack}
 use Rattle.lines.specs.declared.turn.Turn.{Turn}
 use Rattle.lines.specs.declared.turn.Turn.TheVariants.{Follows, Goes, Stops, Waits, Resumes, Enters, Skips, Resets}
 
+-- the bits of a stack, the newest first
+abbrev pub bits_of : Stack → List Bool
+bits_of s = reverse (take s.depth s.cells)
+
 -- the stacked cells, the newest first
 abbrev pub cells_of : Registers → List Bool
-cells_of r = r.stack
+cells_of r = bits_of r.stack
 
 -- the registers of the rules
 abbrev pub registers_of : Registers → rules.Registers

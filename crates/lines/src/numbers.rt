@@ -1,5 +1,5 @@
 // Numbers of one, two or four bytes in the data, low byte first, and the arithmetic of DR's low bytes.
-ghost use Rattle.std.specs.Prelude.{◌≡◌, ◌+◌, ◌-◌, ◌*◌, ◌/◌, ◌%◌, ◌^◌, ◌<◌, ◌≤◌, length, int_le};
+ghost use Rattle.std.specs.Prelude.{◌≡◌, ◌+◌, ◌%◌, ◌<◌, ◌≤◌, length, int_le};
 ghost use Rattle.rules.specs.Op.{bytes_of};
 ghost use Rattle.rules.specs.Number.{number, with_number, modulus, signed, absolute_value};
 
@@ -28,52 +28,85 @@ pub fn store_number(bytes: &mut [u8], place: usize, width: Width, value: u32)
     requires { place + bytes_of width ≤ length bytes.old }
     ensures { bytes.new ≡ with_number bytes.old place (bytes_of width) value }
 {
-    let parts = value.to_le_bytes();
-    bytes[place] = parts[0];
-    if width.bytes() > 1 {
-        bytes[place + 1] = parts[1];
+    let [first, second, third, fourth] = value.to_le_bytes();
+    bytes[place] = first;
+    match width {
+        Width::One => {}
+        Width::Two => bytes[place + 1] = second,
+        Width::Four => {
+            bytes[place + 1] = second;
+            bytes[place + 2] = third;
+            bytes[place + 3] = fourth;
+        }
     }
-    if width.bytes() > 2 {
-        bytes[place + 2] = parts[2];
-        bytes[place + 3] = parts[3];
-    }
 }
 
-// The low bytes of a value moved to the top of a word, where their sign is the word's; the other bytes go.
-fn raised(a: u32, width: Width) -> u32
-    ensures { result ≡ a % modulus (bytes_of width) * 2 ^ (32 - 8 * bytes_of width) }
+// The lowest byte of a register.
+#[tactic(auto, using(std::proofs::lemmas::Nat::and_mask))]
+fn low8(a: u32) -> u8
+    ensures { result ≡ a % modulus 1 }
 {
-    a << (32 - 8 * width.bytes())
+    (a & 0xff) as u8
 }
 
-// The bytes at the top of a word moved back down.
-fn lowered(a: u32, width: Width) -> u32
-    ensures { result ≡ a / 2 ^ (32 - 8 * bytes_of width) }
+// The lowest two bytes of a register.
+#[tactic(auto, using(std::proofs::lemmas::Nat::and_mask))]
+fn low16(a: u32) -> u16
+    ensures { result ≡ a % modulus 2 }
 {
-    a >> (32 - 8 * width.bytes())
+    (a & 0xffff) as u16
 }
 
+// kept: a rule of the project; sums and negations are wrapping ones of 8, 16 and 32 bits, on DR's low bytes.
 /// The sum of a register's low bytes and a number of that width, without what it carries past them.
-#[tactic(auto, using(crate::proofs::Words::added))]
 pub fn add(a: u32, b: u32, width: Width) -> u32
     ensures { result ≡ (a % modulus (bytes_of width) + b) % modulus (bytes_of width) }
 {
-    lowered(raised(a.wrapping_add(b), width), width)
+    match width {
+        Width::One => u32::from(low8(a).wrapping_add(low8(b))),
+        Width::Two => u32::from(low16(a).wrapping_add(low16(b))),
+        Width::Four => a.wrapping_add(b),
+    }
+}
+
+// The absolute value of 8 bits, taken as a signed number; the two below do the same of 16 and of 32.
+fn absolute8(a: u8) -> u8
+    ensures { result ≡ absolute_value 1 a }
+{
+    if a < 0x80 { a } else { a.wrapping_neg() }
+}
+
+fn absolute16(a: u16) -> u16
+    ensures { result ≡ absolute_value 2 a }
+{
+    if a < 0x8000 { a } else { a.wrapping_neg() }
+}
+
+fn absolute32(a: u32) -> u32
+    ensures { result ≡ absolute_value 4 a }
+{
+    if a < 0x8000_0000 { a } else { a.wrapping_neg() }
 }
 
 /// The absolute value of a register's low bytes, taken as a signed number.
-#[tactic(auto, using(crate::proofs::Words::made_absolute))]
 pub fn absolute(a: u32, width: Width) -> u32
     ensures { result ≡ absolute_value (bytes_of width) (a % modulus (bytes_of width)) }
 {
-    lowered(raised(a, width).cast_signed().unsigned_abs(), width)
+    match width {
+        Width::One => u32::from(absolute8(low8(a))),
+        Width::Two => u32::from(absolute16(low16(a))),
+        Width::Four => absolute32(a),
+    }
 }
 
 /// Whether a register's low bytes are at least a number of that width, both signed.
-#[tactic(auto, using(crate::proofs::Words::compared))]
 pub fn at_least(a: u32, b: u32, width: Width) -> bool
     requires { b < modulus (bytes_of width) }
     ensures { result ≡ int_le (signed (bytes_of width) b) (signed (bytes_of width) (a % modulus (bytes_of width))) }
 {
-    raised(a, width).cast_signed() >= raised(b, width).cast_signed()
+    match width {
+        Width::One => low8(a).cast_signed() >= low8(b).cast_signed(),
+        Width::Two => low16(a).cast_signed() >= low16(b).cast_signed(),
+        Width::Four => a.cast_signed() >= b.cast_signed(),
+    }
 }

@@ -6,7 +6,7 @@ ghost use Rattle.lines.specs.Views.{registers_of};
 use crate::stack::Stack;
 
 /// RLO, DR and the stack.
-#[derive(Clone, Drop)]
+#[derive(Clone, Copy)]
 pub struct Registers {
     pub rlo: bool,
     pub dr: u32,

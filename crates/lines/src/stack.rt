@@ -1,29 +1,21 @@
 // The stack of bits in the registers.
-ghost use Rattle.std.specs.Prelude.{◌≡◌, ◌<◌, [], ◌∷◌, length};
+ghost use Rattle.std.specs.Prelude.{◌≤◌};
 
-use std::marker::Model;
-
-/// A stack of at most eight bits: the first `depth` cells, the newest last. A clause sees it as the list of its bits, the newest first.
-#[derive(Clone, Drop)]
+/// A stack of at most eight bits: the first `depth` cells, the newest last. A clause sees it through the list of its bits, the newest first.
+#[derive(Clone, Copy)]
 pub struct Stack {
     cells: [bool; 8],
     depth: usize,
-}
-
-impl Model for Stack {
-    ghost use Rattle.std.specs.Prelude.{◌≤◌, Bool, List, reverse, take};
-
-    ghost Value = { List Bool };
-
-    ghost view = { λ s. reverse (take s.depth s.cells) };
-
-    ghost invariant = { λ s. s.depth ≤ 8 };
+    ghost at_most_eight: { depth ≤ 8 },
 }
 
 impl Stack {
+    ghost use Rattle.std.specs.Prelude.{◌≡◌, ◌<◌, [], ◌∷◌, length};
+    ghost use Rattle.lines.specs.Views.{bits_of};
+
     /// A stack with no bit.
     pub fn new() -> Stack
-        ensures { result ≡ [] }
+        ensures { bits_of result ≡ [] }
     {
         Stack {
             cells: [false; 8],
@@ -33,7 +25,7 @@ impl Stack {
 
     /// How many bits are on the stack.
     pub fn len(&self) -> usize
-        ensures { result ≡ length self.now }
+        ensures { result ≡ length (bits_of self.now) }
     {
         self.depth
     }
@@ -41,8 +33,8 @@ impl Stack {
     /// Puts a bit onto the stack.
     #[tactic(auto, using(crate::proofs::Cells::pushes))]
     pub fn push(&mut self, bit: bool)
-        requires { length self.old < 8 }
-        ensures { self.new ≡ bit ∷ self.old }
+        requires { length (bits_of self.old) < 8 }
+        ensures { bits_of self.new ≡ bit ∷ bits_of self.old }
     {
         self.cells[self.depth] = bit;
         self.depth += 1;
@@ -51,8 +43,8 @@ impl Stack {
     /// Takes the newest bit off the stack.
     #[tactic(auto, using(crate::proofs::Cells::pops))]
     pub fn pop(&mut self) -> bool
-        requires { 0 < length self.old }
-        ensures { self.old ≡ result ∷ self.new }
+        requires { 0 < length (bits_of self.old) }
+        ensures { bits_of self.old ≡ result ∷ bits_of self.new }
     {
         self.depth -= 1;
         self.cells[self.depth]

@@ -1,29 +1,13 @@
 // One line executed.
-ghost use Rattle.std.specs.Prelude.{◌≡◌, ◌<◌, ◌≤◌, Some, false, [], length};
-ghost use Rattle.rules.specs.declared.op.Op.{Op};
-ghost use Rattle.rules.specs.declared.op.Width.{Width};
+ghost use Rattle.std.specs.Prelude.{◌≡◌, ◌<◌, ◌≤◌, length};
 ghost use Rattle.rules.specs.declared.op.Logic.TheVariants.{And, Or, Xor};
-ghost use Rattle.rules.specs.declared.op.Op.TheVariants.{Combine, CombineCell, Abs};
-ghost use Rattle.rules.specs.Op.{decode, by_cell, by_width};
-ghost use Rattle.lines.specs.declared.turn.Turn.TheVariants.{Follows};
+ghost use Rattle.rules.specs.Op.{decode};
 ghost use Rattle.lines.specs.Views.{registers_of, done, line_effect, HasRule};
 
 use crate::registers::Registers;
 use crate::turn::Turn;
 use rules::line::Line;
-use rules::op::{Logic, Mnemonic, Width};
-
-// The width that a mode names.
-fn width_of(mode: u8) -> Width
-    requires { HasRule (by_width mode Abs) }
-    ensures { (f : Width → Op) → by_width mode f ≡ Some (f result) }
-{
-    match mode {
-        1 => Width::One,
-        2 => Width::Two,
-        _ => Width::Four,
-    }
-}
+use rules::op::{Logic, Width};
 
 // The way to join that a code of LA, LO or LX names.
 // kept: by the code, so that the three lines are one target of the jump; with three, logic lines took 1.5 times as long.
@@ -39,19 +23,7 @@ fn logic_of(code: u8) -> Logic
     }
 }
 
-// LA, LO, LX: with a bit, or at mode 2 with a cell.
-fn combine(registers: &mut Registers, bytes: &[u8], logic: Logic, mode: u8, bit: u16)
-    requires { HasRule (line_effect false [] (by_cell mode (λ negated. Combine logic negated bit) (CombineCell logic)) (registers_of registers.old) bytes.now) }
-    ensures { line_effect false [] (by_cell mode (λ negated. Combine logic negated bit) (CombineCell logic)) (registers_of registers.old) bytes.now ≡ done registers.new bytes.now Follows }
-{
-    if mode == 2 {
-        registers.combine_cell(bytes, logic);
-    } else {
-        registers.combine(bytes, logic, mode == 1, bit);
-    }
-}
-
-// kept: an arm for each name; the operation of `line.decode()` was matched here too, and a step took 1.1 to 1.6 times as long, by two jumps in place of one.
+// kept: a rule of the project; one step is a match on the code, with ranges and guards on mode and RLO
 /// Executes a line for which a rule exists, and says where control goes then.
 pub fn step(
     line: Line,
@@ -69,35 +41,44 @@ pub fn step(
         mode,
         operand,
     } = line;
-    match Mnemonic::try_from(code) {
-        Ok(Mnemonic::Ldr) => registers.load(bytes, flagged, mode == 1, operand),
-        Ok(Mnemonic::La | Mnemonic::Lo | Mnemonic::Lx) => {
-            combine(registers, bytes, logic_of(code), mode, operand);
-        }
-        Ok(Mnemonic::Ca) => registers.rlo = !registers.rlo,
-        Ok(Mnemonic::Wr) => registers.write(bytes, registers.rlo, operand),
-        Ok(Mnemonic::Fl) => registers.write(bytes, mode == 1, operand),
-        Ok(Mnemonic::Fl1) if registers.rlo => registers.write(bytes, mode == 1, operand),
-        Ok(Mnemonic::Fl1) => {}
-        Ok(Mnemonic::Jl0) if !registers.rlo => return Turn::Goes(operand),
-        Ok(Mnemonic::Jl1) if registers.rlo => return Turn::Goes(operand),
-        Ok(Mnemonic::Jl0 | Mnemonic::Jl1) => {}
-        Ok(Mnemonic::Ex) => return Turn::Stops,
-        Ok(Mnemonic::Ex0) if !registers.rlo => return Turn::Waits,
-        Ok(Mnemonic::Ex1) if registers.rlo => return Turn::Waits,
-        Ok(Mnemonic::Ex0 | Mnemonic::Ex1) => return Turn::Resumes,
-        Ok(Mnemonic::Lod) => registers.fetch(bytes, width_of(mode), operand),
-        Ok(Mnemonic::Sto) => registers.store(bytes, width_of(mode), operand),
-        Ok(Mnemonic::Ad) => registers.add_number(bytes, width_of(mode), operand),
-        Ok(Mnemonic::Abs) => registers.make_absolute(bytes, width_of(mode)),
-        Ok(Mnemonic::Ge) => registers.compare(bytes, width_of(mode), operand),
-        Ok(Mnemonic::MechBegin) => return registers.begin(bytes, activation, operand),
-        Ok(Mnemonic::MechEnd) => registers.deactivate(bytes, activation, operand),
-        Ok(Mnemonic::MechInit) => {
+    match code {
+        1 => registers.load(bytes, flagged, mode == 1, operand),
+        2..=4 if mode == 2 => registers.combine_cell(bytes, logic_of(code)),
+        2..=4 => registers.combine(bytes, logic_of(code), mode == 1, operand),
+        5 => registers.rlo = !registers.rlo,
+        6 => registers.write(bytes, registers.rlo, operand),
+        7 => registers.write(bytes, mode == 1, operand),
+        8 if registers.rlo => registers.write(bytes, mode == 1, operand),
+        8 => {}
+        9 if !registers.rlo => return Turn::Goes(operand),
+        10 if registers.rlo => return Turn::Goes(operand),
+        9..=10 => {}
+        11 => return Turn::Stops,
+        12 if !registers.rlo => return Turn::Waits,
+        13 if registers.rlo => return Turn::Waits,
+        12..=13 => return Turn::Resumes,
+        16 if mode == 1 => registers.fetch(bytes, Width::One, operand),
+        16 if mode == 2 => registers.fetch(bytes, Width::Two, operand),
+        16 => registers.fetch(bytes, Width::Four, operand),
+        17 if mode == 1 => registers.store(bytes, Width::One, operand),
+        17 if mode == 2 => registers.store(bytes, Width::Two, operand),
+        17 => registers.store(bytes, Width::Four, operand),
+        19 if mode == 1 => registers.add_number(bytes, Width::One, operand),
+        19 if mode == 2 => registers.add_number(bytes, Width::Two, operand),
+        19 => registers.add_number(bytes, Width::Four, operand),
+        20 if mode == 1 => registers.make_absolute(bytes, Width::One),
+        20 if mode == 2 => registers.make_absolute(bytes, Width::Two),
+        20 => registers.make_absolute(bytes, Width::Four),
+        21 if mode == 1 => registers.compare(bytes, Width::One, operand),
+        21 if mode == 2 => registers.compare(bytes, Width::Two, operand),
+        21 => registers.compare(bytes, Width::Four, operand),
+        22 => return registers.begin(bytes, activation, operand),
+        23 => registers.deactivate(bytes, activation, operand),
+        24 => {
             registers.deactivate(bytes, activation, operand);
             return Turn::Resets(operand);
         }
-        Err(_) => unreachable(),
+        _ => unreachable(),
     }
     Turn::Follows
 }

@@ -1,7 +1,7 @@
 -- The points at first lines, as a list by number. Assumes nothing.
 use Rattle.std.proofs.Common.{◌≡◌, ℕ, ◌+◌, List, [], ◌∷◌, length, map, refl, ap}
 use Rattle.std.specs.List.{range_with_len}
-use Rattle.rules.specs.Unit.{Mechanism}
+use Rattle.rules.specs.declared.unit.UnitId.TheVariants.{Mechanism}
 use Rattle.rules.specs.Program.{Program, first}
 use Rattle.rules.specs.Session.{first_lines}
 

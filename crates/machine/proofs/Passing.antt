@@ -1,7 +1,7 @@
 -- The loop of a pass: the run so far, one line more, and the pass that is over. Assumes nothing.
 use Rattle.std.proofs.Common.{◌≡◌, ℕ, ◌+◌, ◌<◌, Bool, true, false, sym, refl, subst, add-one}
 use Rattle.std.proofs.lemmas.Bool.{both_ways}
-use Rattle.rules.specs.Unit.{Module}
+use Rattle.rules.specs.declared.unit.UnitId.TheVariants.{Module}
 use Rattle.rules.specs.Op.{decode}
 use Rattle.rules.specs.Program.{Program, line_at, flag_at, sequential}
 use Rattle.rules.specs.Run.{Memory, Config, enter, Step, Runs, on}

@@ -2,7 +2,8 @@
 use Rattle.std.proofs.Common.{◌≡◌, vec_len, arith}
 use Rattle.std.proofs.Math.Logic.{∥∥₁_elim}
 use Rattle.std.specs.Coded.{le_prop}
-use Rattle.rules.specs.Unit.{UnitId, Module, Mechanism}
+use Rattle.rules.specs.declared.unit.UnitId.{UnitId}
+use Rattle.rules.specs.declared.unit.UnitId.TheVariants.{Module, Mechanism}
 use Rattle.rules.specs.Program.{Real}
 use Rattle.verdict.specs.declared.accepted.Accepted.{Accepted}
 use Rattle.machine.specs.declared.memory.Memory.{Memory}

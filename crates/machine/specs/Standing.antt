@@ -1,6 +1,6 @@
 -- All that a run of a pass holds, and what holds where it stands at a line, so that the line can be executed. Assumes nothing.
 use Rattle.std.specs.Prelude.{◌≡◌, ℕ}
-use Rattle.rules.specs.Unit.{UnitId}
+use Rattle.rules.specs.declared.unit.UnitId.{UnitId}
 use Rattle.rules.specs.Named.{unit_named}
 use Rattle.rules.specs.Op.{decode}
 use Rattle.rules.specs.Program.{Program, line_at, flag_at, Own}

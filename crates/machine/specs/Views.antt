@@ -3,7 +3,8 @@ use Rattle.std.specs.Prelude.{◌≡◌, ℕ, ◌+◌, ◌<◌, length, vec_item
 use Rattle.rules.specs.Program.{Program, after}
 use Rattle.rules.specs.Run as rules
 use Rattle.rules.specs.Run.{at, over}
-use Rattle.rules.specs.Unit.{UnitId, Module, Mechanism}
+use Rattle.rules.specs.declared.unit.UnitId.{UnitId}
+use Rattle.rules.specs.declared.unit.UnitId.TheVariants.{Module, Mechanism}
 use Rattle.image.specs.Held.{meant}
 use Rattle.verdict.specs.declared.accepted.Accepted.{Accepted}
 use Rattle.lines.specs.declared.turn.Turn.{Turn}

@@ -1,6 +1,6 @@
 // What lasts from call to call of a started program.
 
-use rules::unit::{Module, UnitId};
+use rules::unit::{Module, NamedUnit};
 
 /// The data bytes, and the points of BLOCK_INIT, of BLOCK_DONE and of the mechanisms.
 #[derive(Drop)]
@@ -18,15 +18,15 @@ impl Memory {
     ghost use Rattle.machine.specs.Views.{memory_of, HasPoint};
 
     /// Sets the point of a unit; a unit that is not sequential has none to set.
-    pub(crate) fn set_point(&mut self, unit: UnitId, line: usize)
+    pub(crate) fn set_point(&mut self, unit: NamedUnit, line: usize)
         requires { HasPoint self.old (unit_named unit) }
         ensures { memory_of self.new ≡ with_point (memory_of self.old) (unit_named unit) line }
     {
         match unit {
-            UnitId::Module(Module::BlockInit) => self.init_point = line,
-            UnitId::Module(Module::BlockDone) => self.done_point = line,
-            UnitId::Module(_) => {}
-            UnitId::Mechanism(k) => self.points[k] = line,
+            NamedUnit::Module(Module::BlockInit) => self.init_point = line,
+            NamedUnit::Module(Module::BlockDone) => self.done_point = line,
+            NamedUnit::Module(_) => {}
+            NamedUnit::Mechanism(k) => self.points[k] = line,
         }
     }
 }

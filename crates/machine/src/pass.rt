@@ -1,6 +1,6 @@
 // A pass of a module, with the mechanisms that MAIN enters.
 ghost use Rattle.std.specs.Prelude.{◌≡◌, ◌≤◌, true, false, vec_len};
-ghost use Rattle.rules.specs.Unit as unit;
+ghost use Rattle.rules.specs.declared.unit.UnitId.TheVariants as unit;
 ghost use Rattle.rules.specs.Program.{sequential};
 ghost use Rattle.rules.specs.Run.{Passes};
 ghost use Rattle.rules.specs.Named.{module_number};
@@ -11,7 +11,7 @@ use crate::memory::Memory;
 use crate::place::Place;
 use crate::run::Run;
 use lines::cleared::cleared_registers;
-use rules::unit::{Module, UnitId};
+use rules::unit::{Module, NamedUnit};
 use verdict::accepted::Accepted;
 
 /// What a pass answers: how many lines it executed, and whether it came to the unit's end.
@@ -32,7 +32,7 @@ pub fn pass(program: &Accepted, module: Module, memory: &mut Memory) -> Passed
 {
     let mut run = Run {
         program,
-        unit: UnitId::Module(module),
+        unit: NamedUnit::Module(module),
         registers: cleared_registers(),
         memory,
     };

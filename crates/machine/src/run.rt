@@ -11,14 +11,14 @@ use lines::cleared::cleared_registers;
 use lines::registers::Registers;
 use lines::step::step;
 use lines::turn::Turn;
-use rules::unit::{Module, UnitId};
+use rules::unit::{Module, NamedUnit};
 use verdict::accepted::Accepted;
 
 /// All that a run holds at a place: its program, the unit that control is in, the registers and the memory.
 #[derive(Drop)]
 pub struct Run<'a> {
     pub program: &'a Accepted,
-    pub unit: UnitId,
+    pub unit: NamedUnit,
     pub registers: Registers,
     pub memory: &'a mut Memory,
     ghost real: { ∥ Real (meant program.now.formed.layout.program) (unit_named unit) ∥₁ },
@@ -28,6 +28,7 @@ pub struct Run<'a> {
 impl Run<'_> {
     ghost use Rattle.std.specs.Prelude.{◌<◌};
     ghost use Rattle.rules.specs.Run.{point, arrive_module, main_after, arrive, leave, enter, turned, Step};
+    ghost use Rattle.rules.specs.declared.unit.NamedUnit.TheVariants as named_unit;
     ghost use Rattle.lines.specs.Views.{turn_of};
     ghost use Rattle.machine.specs.Views.{Serves};
     ghost use Rattle.machine.specs.Standing.{standing_at, IsReady, Comes, IsSameRun, program_in, unit_in, registers_in, memory_in, config_of};
@@ -37,18 +38,18 @@ impl Run<'_> {
         ensures { result ≡ point (program_in self.now) (memory_in self.now) (unit_in self.now) }
     {
         match self.unit {
-            UnitId::Module(Module::BlockInit) => self.memory.init_point,
-            UnitId::Module(Module::BlockDone) => self.memory.done_point,
-            UnitId::Module(module) => self.program.formed.layout.start_of(module),
-            UnitId::Mechanism(k) => self.memory.points[k],
+            NamedUnit::Module(Module::BlockInit) => self.memory.init_point,
+            NamedUnit::Module(Module::BlockDone) => self.memory.done_point,
+            NamedUnit::Module(module) => self.program.formed.layout.start_of(module),
+            NamedUnit::Mechanism(k) => self.memory.points[k],
         }
     }
 
-    // Control comes to a line of a module; its end ends the pass, and gives the module's point back.
+    // Control comes to a line of the module that it is in; its end ends the pass, and gives the module's point back.
     fn arrive_module(&mut self, module: Module, line: usize) -> Place
+        requires { self.old.unit ≡ named_unit.Module «module» }
         ensures { Comes self.old result self.new (arrive_module (program_in self.old) (module_number «module») line (registers_in self.old) (memory_in self.old)) }
     {
-        self.unit = UnitId::Module(module);
         if line != self.program.formed.layout.end_of(module) {
             return Place::At(line);
         }
@@ -63,6 +64,7 @@ impl Run<'_> {
         requires { mechanism < vec_len self.old.program.now.formed.layout.program.activation }
         ensures { Comes self.old result self.new (main_after (program_in self.old) mechanism (memory_in self.old)) }
     {
+        self.unit = NamedUnit::Module(Module::Main);
         self.registers = cleared_registers();
         let line = mechanism_end(self.program, mechanism);
         self.arrive_module(Module::Main, line)
@@ -73,8 +75,8 @@ impl Run<'_> {
         ensures { Comes self.old result self.new (arrive (program_in self.old) (unit_in self.old) line (registers_in self.old) (memory_in self.old)) }
     {
         match self.unit {
-            UnitId::Module(module) => self.arrive_module(module, line),
-            UnitId::Mechanism(k) => {
+            NamedUnit::Module(module) => self.arrive_module(module, line),
+            NamedUnit::Mechanism(k) => {
                 if line != mechanism_end(self.program, k) {
                     return Place::At(line);
                 }
@@ -90,11 +92,11 @@ impl Run<'_> {
         ensures { Comes self.old result self.new (leave (program_in self.old) (unit_in self.old) (memory_in self.old)) }
     {
         match self.unit {
-            UnitId::Module(_) => {
+            NamedUnit::Module(_) => {
                 self.registers = cleared_registers();
                 Place::Over(false)
             }
-            UnitId::Mechanism(k) => self.main_after(k),
+            NamedUnit::Mechanism(k) => self.main_after(k),
         }
     }
 
@@ -127,14 +129,15 @@ impl Run<'_> {
                 self.arrive(line + 1)
             }
             Turn::Enters(mechanism) => {
-                self.unit = UnitId::Mechanism(usize::from(mechanism));
+                self.unit = NamedUnit::Mechanism(usize::from(mechanism));
                 self.enter()
             }
             Turn::Skips(mechanism) => self.main_after(usize::from(mechanism)),
             Turn::Resets(mechanism) => {
                 let mechanism = usize::from(mechanism);
                 let first = mechanism_first(self.program, mechanism);
-                self.memory.set_point(UnitId::Mechanism(mechanism), first);
+                self.memory
+                    .set_point(NamedUnit::Mechanism(mechanism), first);
                 self.arrive(line + 1)
             }
         }

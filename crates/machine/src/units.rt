@@ -1,6 +1,6 @@
 // Where a mechanism's lines begin and end.
 ghost use Rattle.std.specs.Prelude.{◌≡◌, ◌<◌, vec_len};
-ghost use Rattle.rules.specs.Unit.{Mechanism};
+ghost use Rattle.rules.specs.declared.unit.UnitId.TheVariants.{Mechanism};
 ghost use Rattle.rules.specs.Program.{first, end};
 ghost use Rattle.machine.specs.Views.{program_of};
 

@@ -1,7 +1,8 @@
 -- A route has the most steps where each of its MECH_BEGIN adds its mechanism's bound. Assumes nothing.
 use Rattle.std.proofs.Common.{◌≡◌, ℕ, suc, ◌+◌, ◌<◌, ◌≤◌, max, Bool, true, false, List, [], ◌∷◌, length, get_or, sym, refl, ap, ◌∙◌, subst, ⊎_elim, arith}
 use Rattle.std.proofs.lemmas.Bool.{cases_lt, both_ways, cond-true, cond-false}
-use Rattle.rules.specs.Unit.{UnitId, Module, Mechanism}
+use Rattle.rules.specs.declared.unit.UnitId.{UnitId}
+use Rattle.rules.specs.declared.unit.UnitId.TheVariants.{Module, Mechanism}
 use Rattle.rules.specs.Op.{is_begin}
 use Rattle.rules.specs.Program.{Program, Own, Real, line_at, main_module}
 use Rattle.rules.specs.Image.{line_section}

@@ -1,7 +1,7 @@
 -- Two measures carried together give what each gives alone. Assumes nothing.
 use Rattle.std.proofs.Common.{◌≡◌, ℕ, List, [], ◌∷◌, sym, refl, ap, ◌∙◌}
 use Rattle.rules.specs.declared.line.Line.{Line}
-use Rattle.rules.specs.Unit.{UnitId}
+use Rattle.rules.specs.declared.unit.UnitId.{UnitId}
 use Rattle.rules.specs.Program.{Program, line_at}
 use Rattle.walk.specs.Joins.{Built, one, both, JoinOf}
 use Rattle.walk.specs.Walked.{along, Brought}

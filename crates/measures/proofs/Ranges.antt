@@ -3,7 +3,7 @@ use Rattle.std.proofs.Common.{◌≡◌, ℕ, suc, ◌<◌, ◌≤◌, Bool, tru
 use lib.Signed.{lt_z}
 use Rattle.std.specs.Int.{int_min, int_max, saturate_to_bits}
 use Rattle.std.proofs.lemmas.Int.{ints, clamps}
-use Rattle.rules.specs.Unit.{UnitId}
+use Rattle.rules.specs.declared.unit.UnitId.{UnitId}
 use Rattle.rules.specs.declared.op.Mnemonic.TheVariants as name
 use Rattle.rules.specs.Op.{is}
 use Rattle.rules.specs.Program.{Program, line_at, pushes, pops}

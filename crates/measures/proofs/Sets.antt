@@ -5,7 +5,7 @@ use Rattle.std.specs.Int.Bits.{bit_and}
 use Rattle.std.proofs.lemmas.Nat.Bits.{bit_at_and, bit_at_or, bit_at-zero, bit_at-pow_same, bit_at-pow_other}
 use Rattle.std.proofs.lemmas.Bool.{cases_eq, cases_lt, both_ways, eqb-true, eqb-false, lt-ltb, le-ltb, cond-true, cond-false}
 use Rattle.rules.specs.declared.line.Line.{Line}
-use Rattle.rules.specs.Unit.{UnitId}
+use Rattle.rules.specs.declared.unit.UnitId.{UnitId}
 use Rattle.rules.specs.Op.{is_init}
 use Rattle.rules.specs.Program.{Program, line_at, end}
 use Rattle.rules.specs.Route.{Arrives, Initialises}

@@ -1,6 +1,7 @@
 -- What the values of the measures mean of a unit's routes. Assumes nothing.
 use Rattle.std.specs.Prelude.{◌≡◌, ℕ, ◌+◌, ◌-◌, ◌/◌, ◌%◌, ◌^◌, ◌<◌, Bool, true, false, List, length, ℤ, ◌≤ℤ◌, Some, None, Option, ◌==◌, slice_index, slice_index_or}
-use Rattle.rules.specs.Unit.{UnitId, Module, Mechanism}
+use Rattle.rules.specs.declared.unit.UnitId.{UnitId}
+use Rattle.rules.specs.declared.unit.UnitId.TheVariants.{Module, Mechanism}
 use Rattle.rules.specs.Program.{Program, main_module, first, end}
 use Rattle.rules.specs.Route.{Arrives, Steps, Takes, Greatest, depth, Initialises}
 use Rattle.walk.specs.Walked.{OwnOrEnd}

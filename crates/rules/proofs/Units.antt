@@ -1,11 +1,11 @@
 -- Units of different names are different units of the rules.
 use Rattle.std.proofs.Common.{◌≡◌, ℕ, zero, suc, ◌<◌, cond, List, [], ◌∷◌, get_or, refl, sym, ap, ◌∙◌, ◌==◌, arith, lit<}
-use Rattle.rules.specs.Unit as rules
-use Rattle.rules.specs.Unit.{UnitId}
+use Rattle.rules.specs.declared.unit.UnitId.TheVariants as rules
+use Rattle.rules.specs.declared.unit.UnitId.{UnitId}
 use Rattle.rules.specs.declared.unit.Module.{Module}
 use Rattle.rules.specs.declared.unit.Module.TheVariants.{Input, BlockInit, BlockDone, Main, Init, Clear, Halt}
-use Rattle.rules.specs.declared.unit.UnitId as named
-use Rattle.rules.specs.declared.unit.UnitId.TheVariants as named_unit
+use Rattle.rules.specs.declared.unit.NamedUnit as named
+use Rattle.rules.specs.declared.unit.NamedUnit.TheVariants as named_unit
 use Rattle.rules.specs.Named.{module_number, unit_named}
 
 -- the module of a number; HALT where none has it
@@ -13,7 +13,7 @@ abbrev pub module_at : ℕ → Module
 module_at n = cond (n == 0) Input (cond (n == 1) BlockInit (cond (n == 2) BlockDone (cond (n == 3) Main (cond (n == 4) Init (cond (n == 5) Clear Halt)))))
 
 -- the name of a unit
-abbrev pub named_by : UnitId → named.UnitId
+abbrev pub named_by : UnitId → named.NamedUnit
 named_by (rules.Module n) = named_unit.Module (module_at n)
 named_by (rules.Mechanism k) = named_unit.Mechanism k
 
@@ -28,12 +28,12 @@ module_back Clear = refl
 module_back Halt = refl
 
 -- the name of the unit that a name stands for is that name
-pub back : (u : named.UnitId) → named_by (unit_named u) ≡ u
+pub back : (u : named.NamedUnit) → named_by (unit_named u) ≡ u
 back (named_unit.Module m) = ap named_unit.Module (module_back m)
 back (named_unit.Mechanism k) = refl
 
 -- two names of one unit are one
-pub unit_named-injective : (u v : named.UnitId) → unit_named u ≡ unit_named v → u ≡ v
+pub unit_named-injective : (u v : named.NamedUnit) → unit_named u ≡ unit_named v → u ≡ v
 unit_named-injective u v e = sym (back u) ∙ (ap named_by e ∙ back v)
 
 -- there are seven modules

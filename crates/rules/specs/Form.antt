@@ -6,7 +6,8 @@ use Rattle.rules.specs.declared.op.Op.TheVariants.{Ldr, Combine, CombineCell, Ca
 use Rattle.rules.specs.Op.{bytes_of, is_begin, is_end, is_init, is_jump, is_exit}
 use Rattle.rules.specs.Number.{Bytes}
 use Rattle.rules.specs.Program.{Program, Own, line_at, op_at, total, module_of, module_end, main_module, init_module, clear_module, open_at, unit_of, end, sequential}
-use Rattle.rules.specs.Unit.{UnitId, Module, Mechanism}
+use Rattle.rules.specs.declared.unit.UnitId.{UnitId}
+use Rattle.rules.specs.declared.unit.UnitId.TheVariants.{Module, Mechanism}
 use Rattle.rules.specs.Image.{Section, data_section, mechanism_section, module_section, line_section, least_count, most_count}
 
 -- how many records a program has in a section

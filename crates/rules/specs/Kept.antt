@@ -2,7 +2,8 @@
 use Rattle.std.specs.Prelude.{◌≡◌, ℕ, ◌≤◌, Bool, true, ◌⊎◌, List, [], ◌∷◌, length}
 use Rattle.rules.specs.Number.{Bytes}
 use Rattle.rules.specs.Program.{Program, Real, sequential, input_module, block_init, block_done, main_module, init_module, clear_module, halt_module}
-use Rattle.rules.specs.Unit.{UnitId, Module}
+use Rattle.rules.specs.declared.unit.UnitId.{UnitId}
+use Rattle.rules.specs.declared.unit.UnitId.TheVariants.{Module}
 use Rattle.rules.specs.Route.{Entry}
 use Rattle.rules.specs.Run.{Memory, point, over, Config, enter, Step, Runs, Passes}
 use Rattle.rules.specs.Cabinet.{Meaning}

@@ -1,7 +1,6 @@
 pub mod Refusal
 pub mod Phase
 pub mod Op
-pub mod Unit
 pub mod Program
 pub mod Named
 pub mod Number

@@ -9,7 +9,7 @@ use Rattle.rules.specs.declared.session.Answer.{Answer}
 use Rattle.rules.specs.declared.session.Answer.TheVariants.{Scanned, Done, Refused}
 use Rattle.rules.specs.Number.{bit}
 use Rattle.rules.specs.Program.{Program, first, input_module, block_init, block_done, main_module, init_module, clear_module, halt_module}
-use Rattle.rules.specs.Unit.{Module, Mechanism}
+use Rattle.rules.specs.declared.unit.UnitId.TheVariants.{Module, Mechanism}
 use Rattle.rules.specs.Run.{Memory, with_bytes, Passes}
 use Rattle.rules.specs.Cabinet.{Meaning, Sent, Advanced}
 

@@ -4,7 +4,8 @@ use Rattle.rules.specs.Refusal.{rule_number}
 use Rattle.rules.specs.declared.refusal.Rule.TheVariants.{UnknownLine, BadOperand, BadMechanism, BadJump, BadExit, BadInit, BadDepth, Uninitialised}
 use Rattle.rules.specs.Op.{is_begin, is_end, is_exit}
 use Rattle.rules.specs.Program.{Program, Own, Real, line_at, end, pushes, pops, init_module, clear_module}
-use Rattle.rules.specs.Unit.{UnitId, Module}
+use Rattle.rules.specs.declared.unit.UnitId.{UnitId}
+use Rattle.rules.specs.declared.unit.UnitId.TheVariants.{Module}
 use Rattle.rules.specs.Form.{Shaped, Unknown, IsBadOperand, IsBadMechanism, IsBadJump, IsBadExit, IsBadInit}
 use Rattle.rules.specs.Route.{Arrives, depth, Initialises, ScanTakes, Greatest}
 

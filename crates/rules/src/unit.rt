@@ -1,6 +1,6 @@
 // The modules, and the units of a program's text.
 ghost use Rattle.std.specs.Prelude.{◌≡◌};
-ghost use Rattle.rules.specs.Named.{module_number, IsModuleOf};
+ghost use Rattle.rules.specs.Named.{module_number, unit_named, IsModuleOf};
 
 use std::fmt;
 
@@ -73,9 +73,27 @@ impl fmt::Display for Module {
     }
 }
 
-/// A unit: a module, or a mechanism by its number, which is the lines after its MECH_BEGIN up to and with its MECH_END.
+/// A unit: a module by its number, or a mechanism, which is the lines after its MECH_BEGIN up to and with its MECH_END.
 #[derive(Clone, Copy, Debug, PartialEq, Eq)]
 pub enum UnitId {
+    Module(usize),
+    Mechanism(usize),
+}
+
+/// A unit by name: a module, or a mechanism by its number.
+#[derive(Clone, Copy, Debug, PartialEq, Eq)]
+pub enum NamedUnit {
     Module(Module),
     Mechanism(usize),
+}
+
+impl From<NamedUnit> for UnitId {
+    ghost from_gives = { λ unit id. id ≡ unit_named unit };
+
+    fn from(unit: NamedUnit) -> UnitId {
+        match unit {
+            NamedUnit::Module(m) => UnitId::Module(usize::from(m)),
+            NamedUnit::Mechanism(k) => UnitId::Mechanism(k),
+        }
+    }
 }

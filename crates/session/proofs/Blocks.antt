@@ -2,7 +2,7 @@
 use Rattle.std.proofs.Common.{◌≡◌, ℕ, Bool, sym, subst}
 use Rattle.rules.specs.declared.session.Phase.{Phase}
 use Rattle.rules.specs.declared.session.Phase.TheVariants.{Preparing, Closing}
-use Rattle.rules.specs.Unit.{Module}
+use Rattle.rules.specs.declared.unit.UnitId.TheVariants.{Module}
 use Rattle.rules.specs.Program.{Program, block_init, block_done}
 use Rattle.rules.specs.Run.{Memory, Passes}
 use Rattle.rules.specs.Session.{BlockPart, prepares, closes, after_preparing, after_closing}

@@ -3,7 +3,7 @@ use Rattle.std.proofs.Common.{◌≡◌, ℕ, zero, suc, ◌+◌, ◌≤◌, Boo
 use denote.Ref.{Bor}
 use Rattle.std.proofs.lemmas.Bool.{cases_eq, eqb-true}
 use Rattle.rules.specs.declared.line.Line.{Line}
-use Rattle.rules.specs.Unit.{UnitId}
+use Rattle.rules.specs.declared.unit.UnitId.{UnitId}
 use Rattle.rules.specs.Op.{is_begin, is_exit}
 use Rattle.rules.specs.Program.{Program, Own, line_at, first, after, end_line}
 use Rattle.rules.specs.Image.{data_section}

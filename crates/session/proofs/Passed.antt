@@ -1,6 +1,7 @@
 -- Passes of modules that always come to their end, put together to the calls. Assumes nothing.
 use Rattle.std.proofs.Common.{◌≡◌, ℕ, ◌+◌, Bool, true, List, refl, subst}
-use Rattle.rules.specs.Unit.{UnitId, Module}
+use Rattle.rules.specs.declared.unit.UnitId.{UnitId}
+use Rattle.rules.specs.declared.unit.UnitId.TheVariants.{Module}
 use Rattle.rules.specs.declared.session.Phase.{Phase}
 use Rattle.rules.specs.Program.{Program, input_module, main_module}
 use Rattle.rules.specs.Run.{Memory, Passes}

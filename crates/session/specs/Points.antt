@@ -1,6 +1,6 @@
 -- The points of a running program, as its type keeps them. Assumes nothing.
 use Rattle.std.specs.Prelude.{◌≡◌, true}
-use Rattle.rules.specs.Unit.{UnitId}
+use Rattle.rules.specs.declared.unit.UnitId.{UnitId}
 use Rattle.rules.specs.Program.{Program, Real, sequential}
 use Rattle.rules.specs.Route.{Entry}
 use Rattle.rules.specs.Run.{Memory, point}

@@ -1,6 +1,6 @@
 // A program, and the memory that it works on.
 ghost use Rattle.std.specs.Prelude.{◌≡◌, ◌<◌, ◌≤◌, true, false, vec_len, IfOk};
-ghost use Rattle.rules.specs.Unit as unit;
+ghost use Rattle.rules.specs.declared.unit.UnitId.TheVariants as unit;
 ghost use Rattle.rules.specs.Named.{module_number};
 ghost use Rattle.rules.specs.Cabinet.{Sent};
 ghost use Rattle.rules.specs.Program.{sequential};

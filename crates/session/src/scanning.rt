@@ -1,6 +1,6 @@
 // What a scan does to a program's memory.
 ghost use Rattle.std.specs.Prelude.{◌≡◌, ◌<◌, ◌≤◌, Bool, cond, vec_len};
-ghost use Rattle.rules.specs.Unit as unit;
+ghost use Rattle.rules.specs.declared.unit.UnitId.TheVariants as unit;
 ghost use Rattle.rules.specs.Named.{module_number};
 ghost use Rattle.rules.specs.Run.{Passes};
 ghost use Rattle.rules.specs.Session.{with_inputs, BlockPart, Scans};

@@ -44,17 +44,19 @@ impl Display for Known {
 }
 
 /// Writes each line of a formed program: its number, its unit, the text flag at it, what its routes bring, and the line.
-fn write_text<W: Write>(out: &mut W, text: &SurveyedText) -> io::Result<()> {
+fn write_text<W: Write>(out: &mut W, text: &SurveyedText<'_>) -> io::Result<()> {
     writeln!(
         out,
         "text: line, unit, text flag, depth, greatest steps before it, * on a longest scan, instruction"
     )?;
-    for (number, line) in text.lines.iter().enumerate() {
-        let unit = UnitName(line.unit);
-        let flag = u8::from(line.flag);
-        let known = Known(line.survey);
-        let instruction = Instruction(line.line);
-        writeln!(out, "{number:>6}  {unit}  {flag} {known} {instruction}")?;
+    for number in 0..text.len() {
+        if let Some(line) = text.line(number) {
+            let unit = UnitName(line.unit);
+            let flag = u8::from(line.flag);
+            let known = Known(line.survey);
+            let instruction = Instruction(line.line);
+            writeln!(out, "{number:>6}  {unit}  {flag} {known} {instruction}")?;
+        }
     }
     Ok(())
 }
@@ -77,7 +79,7 @@ pub(crate) fn inspect(rt: &HostRuntime, file: String) -> Result<(), Failure> {
     let mut out = BufWriter::new(heap, rt.stdout())?;
     write_sections(&mut out, &image)?;
     let refusal = match form(heap, image.program(heap)?) {
-        Ok(formed) => show_formed(heap, &mut out, &formed, bytes.as_slice())?,
+        Ok(formed) => show_formed(heap, &mut out, formed, bytes.as_slice())?,
         Err(CheckFault::Text(fault)) => {
             write_raw_text(&mut out, image.program(heap)?.lines.as_slice())?;
             Some(Refusal::from(fault))
@@ -95,17 +97,21 @@ pub(crate) fn inspect(rt: &HostRuntime, file: String) -> Result<(), Failure> {
 fn show_formed<W: Write>(
     heap: Global,
     out: &mut W,
-    formed: &Formed,
+    formed: Formed,
     image: &[u8],
 ) -> Result<Option<Refusal>, Failure> {
-    let mut text = SurveyedText::of(heap, formed)?;
-    let refusal = match accept(heap, image) {
+    match accept(heap, image) {
         Ok(program) => {
+            // the accepted program has the same text
+            drop(formed);
+            let mut text = SurveyedText::of(heap, &program.formed)?;
             text.mark_longest(heap, &program)?;
-            None
+            write_text(out, &text)?;
+            Ok(None)
         }
-        Err(fault) => fault.refusal(),
-    };
-    write_text(out, &text)?;
-    Ok(refusal)
+        Err(fault) => {
+            write_text(out, &SurveyedText::of(heap, &formed)?)?;
+            Ok(fault.refusal())
+        }
+    }
 }

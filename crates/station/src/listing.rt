@@ -4,7 +4,7 @@ use rules::op::Mnemonic::{
     Abs, Ad, Ca, Ex, Ex0, Ex1, Fl, Fl1, Ge, Jl0, Jl1, La, Ldr, Lo, Lod, Lx, MechBegin, MechEnd,
     MechInit, Sto, Wr,
 };
-use rules::unit::UnitId;
+use rules::unit::{Module, UnitId};
 use std::fmt;
 use std::fmt::{Display, Formatter};
 
@@ -49,7 +49,10 @@ pub(crate) struct UnitName(pub(crate) UnitId);
 impl Display for UnitName {
     fn fmt<W: fmt::Write>(&self, f: &mut Formatter<W>) -> fmt::Result {
         match self.0 {
-            UnitId::Module(module) => write!(f, "{module:<12}"),
+            UnitId::Module(number) => match Module::try_from(number) {
+                Ok(module) => write!(f, "{module:<12}"),
+                Err(_) => write!(f, "{:<12}", "?"),
+            },
             UnitId::Mechanism(mechanism) => write!(f, "mechanism {mechanism:<2}"),
         }
     }

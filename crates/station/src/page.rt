@@ -73,9 +73,9 @@ impl Display for Measures {
 
 /// A line of the text, by its number, as a row of the table.
 #[derive(Clone, Copy)]
-struct Row<'a>(usize, &'a SurveyedLine);
+struct Row(usize, SurveyedLine);
 
-impl Display for Row<'_> {
+impl Display for Row {
     fn fmt<W: fmt::Write>(&self, f: &mut Formatter<W>) -> fmt::Result {
         let Row(number, line) = *self;
         let start = match line.survey {
@@ -129,10 +129,12 @@ impl Page {
     }
 
     /// Adds the text, line by line, and the end of the page.
-    pub(crate) fn add_text(&mut self, text: &SurveyedText) -> Result<(), AllocError> {
+    pub(crate) fn add_text(&mut self, text: &SurveyedText<'_>) -> Result<(), AllocError> {
         self.html.push_str(HEADING)?;
-        for (number, line) in text.lines.iter().enumerate() {
-            writeln!(self.html, "{}", Row(number, line))?;
+        for number in 0..text.len() {
+            if let Some(line) = text.line(number) {
+                writeln!(self.html, "{}", Row(number, line))?;
+            }
         }
         self.html.push_str(END)
     }

@@ -42,23 +42,19 @@ fn write_modules<W: Write>(out: &mut W, part: Part<'_>, starts: &[usize]) -> io:
 
 /// Writes the four sections: the offset of each one's first record, how many records it has, and what they hold.
 pub(crate) fn write_sections<W: Write>(out: &mut W, image: &Image<'_>) -> io::Result<()> {
-    let Image {
-        data,
-        mechanisms,
-        modules,
-        lines,
-        starts,
-        ..
-    } = *image;
+    let data = image.data.part();
     let count = data.bytes.len();
     writeln!(out, "data at {} bytes {count}", data.offset)?;
     write_bytes(out, data.bytes)?;
+    let mechanisms = image.mechanisms.part();
     let count = mechanisms.bytes.len() / 2;
     writeln!(out, "mechanisms at {} count {count}", mechanisms.offset)?;
     write_mechanisms(out, mechanisms)?;
+    let modules = image.modules.part();
     let count = modules.bytes.len() / 2;
     writeln!(out, "modules at {} count {count}", modules.offset)?;
-    write_modules(out, modules, &starts)?;
+    write_modules(out, modules, &image.starts)?;
+    let lines = image.lines.part();
     let count = lines.bytes.len() / 4;
     writeln!(out, "lines at {} count {count}", lines.offset)
 }

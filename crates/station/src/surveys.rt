@@ -3,12 +3,12 @@ use certificate::bounds::mechanism_bounds;
 use certificate::scan::longest_scan;
 use measures::survey::survey;
 use rules::line::Line;
-use rules::unit::{Module, UnitId};
+use rules::unit::{Module, NamedUnit, UnitId};
 use std::alloc::{AllocError, Global};
 use text::formed::Formed;
 use verdict::accepted::Accepted;
 use walk::unit_text::UnitText;
-use walk::units::unit_text;
+use walk::units::named_text;
 
 /// What is known of a line: the greatest number of steps and the lowest and the highest depth with which a route comes there, and whether
 /// it is on the routes of a longest scan.
@@ -29,30 +29,14 @@ pub(crate) struct SurveyedLine {
     pub(crate) survey: Option<Survey>,
 }
 
-/// The lines of a formed program, in their order.
+/// A formed program, and what is known of each of its lines.
 #[derive(Drop)]
-pub(crate) struct SurveyedText {
-    pub(crate) lines: Vec<SurveyedLine>,
+pub(crate) struct SurveyedText<'a> {
+    formed: &'a Formed,
+    surveys: Vec<Option<Survey>>,
 }
 
-impl SurveyedText {
-    /// The lines with nothing known of them.
-    fn blank(heap: Global, formed: &Formed) -> Result<SurveyedText, AllocError> {
-        let layout = &formed.layout;
-        let lines = layout
-            .marks
-            .iter()
-            .zip(layout.program.lines.iter())
-            .map(|(mark, line)| SurveyedLine {
-                unit: mark.unit,
-                flag: mark.flag,
-                line: *line,
-                survey: None,
-            })
-            .collect(heap)?;
-        Ok(SurveyedText { lines })
-    }
-
+impl<'a> SurveyedText<'a> {
     /// Takes in what is known of the lines of one unit.
     fn take_in(
         &mut self,
@@ -61,10 +45,10 @@ impl SurveyedText {
         bounds: &[u32],
     ) -> Result<(), AllocError> {
         let table = survey(unit, bounds, heap)?;
-        let own = self.lines.iter_mut().take(unit.end).skip(unit.first);
-        for (line, entry) in own.zip(table.iter()) {
+        let own = self.surveys.iter_mut().take(unit.end).skip(unit.first);
+        for (place, entry) in own.zip(table.iter()) {
             if let Some((steps, (low, high))) = *entry {
-                line.survey = Some(Survey {
+                *place = Some(Survey {
                     steps,
                     low,
                     high,
@@ -75,14 +59,15 @@ impl SurveyedText {
         Ok(())
     }
 
-    /// The lines with what is known of each.
-    pub(crate) fn of(heap: Global, formed: &Formed) -> Result<SurveyedText, AllocError> {
+    /// A formed program with what is known of each line.
+    pub(crate) fn of(heap: Global, formed: &'a Formed) -> Result<SurveyedText<'a>, AllocError> {
         let bounds = mechanism_bounds(formed, heap)?;
-        let mut text = SurveyedText::blank(heap, formed)?;
-        let modules = Module::ALL.into_iter().map(UnitId::Module);
-        let mechanisms = (0..formed.layout.program.activation.len()).map(UnitId::Mechanism);
+        let surveys = vec![in heap; None; formed.layout.program.lines.len()]?;
+        let mut text = SurveyedText { formed, surveys };
+        let modules = Module::ALL.into_iter().map(NamedUnit::Module);
+        let mechanisms = (0..formed.layout.program.activation.len()).map(NamedUnit::Mechanism);
         for id in modules.chain(mechanisms) {
-            if let Some(unit) = unit_text(formed, id) {
+            if let Some(unit) = named_text(formed, id) {
                 text.take_in(heap, &unit, bounds.as_slice())?;
             }
         }
@@ -92,13 +77,7 @@ impl SurveyedText {
     /// Marks the lines of a route.
     fn mark(&mut self, route: &[usize]) {
         for line in route {
-            if let Some(
-                SurveyedLine {
-                    survey: Some(survey),
-                    ..
-                },
-            ) = self.lines.get_mut(*line)
-            {
+            if let Some(Some(survey)) = self.surveys.get_mut(*line) {
                 survey.longest = true;
             }
         }
@@ -116,5 +95,20 @@ impl SurveyedText {
             self.mark(route.as_slice());
         }
         Ok(())
+    }
+
+    /// How many lines there are.
+    pub(crate) fn len(&self) -> usize {
+        self.surveys.len()
+    }
+
+    /// The line of a number, with what is known of it, or none where there is no such line.
+    pub(crate) fn line(&self, number: usize) -> Option<SurveyedLine> {
+        Some(SurveyedLine {
+            unit: self.formed.unit_of(number)?,
+            flag: self.formed.flag_at(number)?,
+            line: self.formed.line(number)?,
+            survey: *self.surveys.get(number)?,
+        })
     }
 }

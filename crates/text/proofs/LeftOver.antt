@@ -2,7 +2,7 @@
 use Rattle.std.proofs.Common.{◌≡◌, ℕ, ◌+◌, ◌<◌, ◌≤◌, min, Bool, true, false, cond, not, ◌&&◌, eqb, ◌⊎◌, List, length, Some, None, MatchBool, Decides, Option, unwrap_or, sym, refl, ap, ◌∙◌, subst, inl, inr, arith, lit<}
 use Rattle.std.specs.List.{HoldsAt, AllWithin}
 use Rattle.std.proofs.lemmas.Bool.{cases_lt, true≢false}
-use Rattle.rules.specs.Unit.{Module}
+use Rattle.rules.specs.declared.unit.UnitId.TheVariants.{Module}
 use Rattle.rules.specs.Op.{is_begin, is_end}
 use Rattle.rules.specs.Program.{Program, Own, line_at, main_module, module_first, module_end, module_of, open_at, begin_line}
 use Rattle.rules.specs.Form.{Shaped, Begun, LeftOver, IsBadMechanism}

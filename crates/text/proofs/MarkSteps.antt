@@ -3,7 +3,7 @@ use Rattle.std.proofs.Common.{◌≡◌, ℕ, ◌+◌, ◌<◌, ◌≤◌, Bool,
 use Rattle.std.proofs.lemmas.List.{length_push}
 use Rattle.std.proofs.lemmas.Bool.{eq-eqb, ne_eqb, cond-true, cond-false}
 use Rattle.rules.specs.declared.line.Line.{Line}
-use Rattle.rules.specs.Unit.{Module}
+use Rattle.rules.specs.declared.unit.UnitId.TheVariants.{Module}
 use Rattle.rules.specs.Program.{Program, line_at, no_line, main_module, module_first, module_of, open_after, flag_after, stretch, open_at, main_or, unit_of, flag_at}
 use Rattle.theory.proofs.Text.{stretch_more, open_push}
 use Rattle.rules.specs.Named.{unit_named}

@@ -2,7 +2,7 @@
 use Rattle.std.proofs.Common.{◌≡◌, ℕ, ◌<◌, ◌≤◌, true, false, ◌&&◌, eqb, length, refl, ap, inl, inr, arith}
 use Rattle.std.proofs.lemmas.Bool.{eqb-true, eq-eqb, and_from, and_parts, both_ways}
 use Rattle.rules.specs.declared.line.Line.{Line}
-use Rattle.rules.specs.Unit.{Module}
+use Rattle.rules.specs.declared.unit.UnitId.TheVariants.{Module}
 use Rattle.rules.specs.Op.{is_begin, is_end}
 use Rattle.rules.specs.Program.{Program, Own, no_line, line_at, main_module, begin_line}
 use Rattle.rules.specs.Form.{Begun}

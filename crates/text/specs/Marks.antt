@@ -1,7 +1,7 @@
 -- The lines of a text whose unit and text flag have been found. Assumes nothing.
 use Rattle.std.specs.Prelude.{◌≡◌, ℕ, ◌<◌, false, List, length, slice_index_or}
 use Rattle.rules.specs.declared.unit.Module.TheVariants.{Input}
-use Rattle.rules.specs.declared.unit.UnitId.TheVariants.{Module}
+use Rattle.rules.specs.declared.unit.NamedUnit.TheVariants.{Module}
 use Rattle.rules.specs.Named.{unit_named}
 use Rattle.rules.specs.Program.{Program, unit_of, flag_at}
 use Rattle.text.specs.declared.marks.Mark.{Mark}

@@ -2,7 +2,8 @@
 use Rattle.std.specs.Prelude.{◌≡◌, ℕ, ◌<◌, ◌≤◌, Bool, true, false, List, length, ◌==◌, slice_index, slice_index_or}
 use Rattle.rules.specs.Refusal.{rule_number}
 use Rattle.rules.specs.declared.refusal.Rule.TheVariants.{BadInit}
-use Rattle.rules.specs.Unit.{UnitId, Module, Mechanism}
+use Rattle.rules.specs.declared.unit.UnitId.{UnitId}
+use Rattle.rules.specs.declared.unit.UnitId.TheVariants.{Module, Mechanism}
 use Rattle.rules.specs.Program.{Program, module_first, begin_line, end_line, flag_at, unit_of}
 use Rattle.rules.specs.Verdict.{Breaks}
 use Rattle.rules.specs.Named.{unit_named}

@@ -1,6 +1,6 @@
 -- What is asked of a formed program by number, and where there is an answer. Assumes nothing.
 use Rattle.std.specs.Prelude.{◌≡◌, ℕ, cond, length, Some, None, Option, nat_lt}
-use Rattle.rules.specs.Unit.{UnitId}
+use Rattle.rules.specs.declared.unit.UnitId.{UnitId}
 use Rattle.rules.specs.Program.{Program, Real, first, end}
 use Rattle.text.specs.declared.span.Span.{Span}
 

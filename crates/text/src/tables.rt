@@ -1,12 +1,13 @@
 // The tables of a text: where its modules begin, and where each mechanism is begun and ended.
-ghost use Rattle.std.specs.Prelude.{◌≡◌, ◌<◌, ◌&&◌, length, IfOk, vec_len, ◌==◌};
+ghost use Rattle.std.specs.Prelude.{◌≡◌, ℕ, ◌<◌, if◌then◌else◌, ◌&&◌, length, IfOk, vec_len, ◌==◌};
 ghost use Rattle.rules.specs.Op.{is};
-ghost use Rattle.rules.specs.Program.{find};
+ghost use Rattle.rules.specs.declared.op.Mnemonic.TheVariants as name;
 ghost use Rattle.image.specs.Held.{meant};
-ghost use Rattle.text.specs.Tables.{StartsAre, BeginsAre, EndsAre};
+ghost use Rattle.text.specs.Tables.{StartsAre, bracket_at, BeginsAre, EndsAre};
 
 use crate::bracket::Bracket;
 use image::program::Program;
+use rules::line::Line;
 use rules::op::Mnemonic;
 use std::alloc::{AllocError, Global};
 
@@ -25,15 +26,23 @@ pub(crate) fn starts(heap: Global, program: &Program) -> Result<Vec<usize>, Allo
     Ok(starts)
 }
 
-// The first line of a name that names a mechanism, or the number of lines where there is none.
-fn first_line(program: &Program, name: Mnemonic, k: usize) -> usize
-    ensures { result ≡ find (λ x. is name x && x.operand == k) program.now.lines.items }
+// Takes in a line: the mechanism that it begins or ends is begun or ended at the line's place.
+fn take_in(brackets: &mut [Bracket], line: Line, place: usize)
+    ensures count { length brackets.new ≡ length brackets.old }
+    ensures begins { (k : ℕ) → k < length brackets.old
+        → (bracket_at brackets.new k).begin ≡ (if is name.MechBegin line && line.operand == k then place else (bracket_at brackets.old k).begin) }
+    ensures ends { (k : ℕ) → k < length brackets.old
+        → (bracket_at brackets.new k).end ≡ (if is name.MechEnd line && line.operand == k then place else (bracket_at brackets.old k).end) }
 {
-    program
-        .lines
-        .iter()
-        .position(|line| line.is(name) && usize::from(line.operand) == k)
-        .unwrap_or(program.lines.len())
+    let k = usize::from(line.operand);
+    // kept: after `get_mut` of a slice a proof knows its length and no element, so the operand is tested here
+    if k < brackets.len() {
+        if line.is(Mnemonic::MechBegin) {
+            brackets[k].begin = place;
+        } else if line.is(Mnemonic::MechEnd) {
+            brackets[k].end = place;
+        }
+    }
 }
 
 // The MECH_BEGIN and the MECH_END of each mechanism, or the number of lines where there is none.
@@ -42,10 +51,14 @@ pub(crate) fn brackets(heap: Global, program: &Program) -> Result<Vec<Bracket>, 
     ensures begins { IfOk result (λ v. BeginsAre (meant program.now) v.items) }
     ensures ends { IfOk result (λ v. EndsAre (meant program.now) v.items) }
 {
-    (0..program.activation.len())
-        .map(|k| Bracket {
-            begin: first_line(program, Mnemonic::MechBegin, k),
-            end: first_line(program, Mnemonic::MechEnd, k),
-        })
-        .collect(heap)
+    let count = program.lines.len();
+    let absent = Bracket {
+        begin: count,
+        end: count,
+    };
+    let mut brackets = vec![in heap; absent; program.activation.len()]?;
+    for place in (0..count).rev() {
+        take_in(&mut brackets, program.lines[place], place);
+    }
+    Ok(brackets)
 }

@@ -1,7 +1,7 @@
 // Each clause of the rules of the text that need no route, with the line where it is broken, and the edges beside it.
 use crate::building::program;
 use rules::line::Line;
-use rules::unit::{Module, UnitId};
+use rules::unit::UnitId;
 use std::alloc::Global;
 use std::process::Abort;
 use std::test::Fail;
@@ -505,11 +505,12 @@ fn views_of_the_gate_program(rt: HostRuntime) -> Result<(), Fail> {
         Some(Span { first: 3, end: 9 })
     );
     assert_eq!(rt;
-        formed.span(UnitId::Module(Module::Main)),
+        formed.span(UnitId::Module(3)),
         Some(Span { first: 0, end: 9 })
     );
+    assert_eq!(rt; formed.span(UnitId::Module(7)), None);
     assert_eq!(rt; formed.module_span(7), None);
-    assert_eq!(rt; formed.unit_of(2), Some(UnitId::Module(Module::Main)));
+    assert_eq!(rt; formed.unit_of(2), Some(UnitId::Module(3)));
     assert_eq!(rt; formed.unit_of(3), Some(UnitId::Mechanism(0)));
     assert_eq!(rt; formed.unit_of(8), Some(UnitId::Mechanism(0)));
     assert_eq!(rt; formed.unit_of(11), None);

@@ -5,7 +5,8 @@ use Rattle.std.proofs.lemmas.List.{get_or_past}
 use Rattle.rules.specs.declared.line.Line.{Line}
 use Rattle.rules.specs.Op.{is_begin, is_end, is_init, is_jump, is_exit}
 use Rattle.rules.specs.Program.{no_line, line_at, op_at, init_module, clear_module, open_at, unit_of, first, end, sequential, flag_at, pushes, pops}
-use Rattle.rules.specs.Unit.{UnitId, Module, Mechanism}
+use Rattle.rules.specs.declared.unit.UnitId.{UnitId}
+use Rattle.rules.specs.declared.unit.UnitId.TheVariants.{Module, Mechanism}
 use Rattle.rules.specs.Image.{Section, data_section, mechanism_section, module_section, line_section, least_count, most_count}
 use Rattle.rules.specs.Form.{records, Shaped, IsBadOperand, IsBadBegin, IsBadEnd, IsBadMechanism}
 use Rattle.rules.specs.Route.{Arrives, at_entry, passed, change, depth, Initialises}

@@ -7,7 +7,8 @@ use Rattle.rules.specs.declared.op.Logic.TheVariants.{And, Or, Xor}
 use Rattle.rules.specs.declared.op.Op.TheVariants.{Ldr, Combine, CombineCell, Ca, Wr, Fl, Fl1, Jl, Ex, ExIf, Lod, Sto, Ad, Ge, Abs, MechBegin, MechEnd, MechInit}
 use Rattle.rules.specs.Op.{is_begin, is_jump, is_exit}
 use Rattle.rules.specs.Program.{Program, line_at, main_module, module_first, module_end, Own, begin_line, end_line, first, end, after, Real}
-use Rattle.rules.specs.Unit.{UnitId, Module, Mechanism}
+use Rattle.rules.specs.declared.unit.UnitId.{UnitId}
+use Rattle.rules.specs.declared.unit.UnitId.TheVariants.{Module, Mechanism}
 use Rattle.rules.specs.Form.{Shaped, Reaches}
 use Rattle.rules.specs.Route.{Way, Entry, Arrives, at_entry, passed, Route, to_end, stopped, Steps, none, line, entered, Takes}
 use Rattle.rules.specs.Run.{Place, at, over}

@@ -6,7 +6,8 @@ use Rattle.rules.specs.declared.op.Op.{Op}
 use Rattle.rules.specs.declared.op.Op.TheVariants.{Ldr, Combine, CombineCell, Ca, Wr, Fl, Fl1, Jl, Ex, ExIf, Lod, Sto, Ad, Ge, Abs, MechBegin, MechEnd, MechInit}
 use Rattle.rules.specs.Op.{bytes_of, is_begin, is_end, is_jump, is_exit}
 use Rattle.rules.specs.Program.{Program, line_at, op_at, main_module, module_end, module_of, open_at, unit_of, Own, end, sequential}
-use Rattle.rules.specs.Unit.{UnitId, Module, Mechanism}
+use Rattle.rules.specs.declared.unit.UnitId.{UnitId}
+use Rattle.rules.specs.declared.unit.UnitId.TheVariants.{Module, Mechanism}
 use Rattle.rules.specs.Form.{Reaches, Begun, IsBadMechanism, Lands}
 use Rattle.rules.specs.Verdict.{by_unknown_line, by_bad_operand, by_bad_mechanism, by_bad_jump, by_bad_exit, Formed}
 

@@ -4,7 +4,7 @@ use Rattle.rules.specs.declared.session.Phase.{Phase}
 use Rattle.rules.specs.declared.session.Answer.{Answer}
 use Rattle.rules.specs.declared.session.Answer.TheVariants.{Scanned, Done}
 use Rattle.rules.specs.Program.{Program, input_module, block_init, block_done, main_module, init_module, clear_module, halt_module}
-use Rattle.rules.specs.Unit.{Module}
+use Rattle.rules.specs.declared.unit.UnitId.TheVariants.{Module}
 use Rattle.rules.specs.Run.{Memory, Passes}
 use Rattle.rules.specs.Session.{Machine, fresh, with_inputs, block_points_back, BlockPart, idle, prepares, closes, Scans, after_preparing, after_closing, Clears, Halts, Starts, scans, clears, starts_block, no_block, reports, no_report, halts}
 use Rattle.theory.specs.Laws.{OutcomesAlike}

@@ -10,7 +10,8 @@ use Rattle.rules.specs.declared.session.Answer.{Answer}
 use Rattle.rules.specs.declared.session.Answer.TheVariants.{Scanned, Done, Refused}
 use Rattle.rules.specs.declared.refusal.Rule.TheVariants.{BlockStartOutsidePhase0, ReportOutsidePhase2}
 use Rattle.rules.specs.Program.{Program, input_module, block_init, block_done, main_module, init_module, clear_module, halt_module, first, sequential}
-use Rattle.rules.specs.Unit.{UnitId, Module, Mechanism}
+use Rattle.rules.specs.declared.unit.UnitId.{UnitId}
+use Rattle.rules.specs.declared.unit.UnitId.TheVariants.{Module, Mechanism}
 use Rattle.rules.specs.Number.{Bytes}
 use Rattle.rules.specs.Image.{data_section}
 use Rattle.rules.specs.Route.{Entry, Takes, BlockTakes, ScanTakes, Greatest}

@@ -6,7 +6,8 @@ use Rattle.rules.specs.declared.op.Op.{Op}
 use Rattle.rules.specs.declared.op.Op.TheVariants.{Jl, Ex, ExIf, MechBegin, MechInit}
 use Rattle.rules.specs.Op.{is_begin, is_jump, is_exit, is_ex}
 use Rattle.rules.specs.Program.{Program, line_at, op_at, main_module, Own, end_line, first, end, after, Real, sequential, flag_at, pushes, pops}
-use Rattle.rules.specs.Unit.{UnitId, Module, Mechanism}
+use Rattle.rules.specs.declared.unit.UnitId.{UnitId}
+use Rattle.rules.specs.declared.unit.UnitId.TheVariants.{Module, Mechanism}
 use Rattle.rules.specs.Form.{Shaped, Reaches}
 use Rattle.rules.specs.Route.{Way, Arrives, at_entry, passed, Route, to_end, stopped, Steps, none, line, entered, Takes, change, depth}
 use Rattle.rules.specs.Verdict.{off}

@@ -5,7 +5,8 @@ use Rattle.std.proofs.lemmas.Bool.{false≢true, cases_eq}
 use Rattle.rules.specs.declared.op.Mnemonic.TheVariants as name
 use Rattle.rules.specs.Op.{is_begin, is_end, is_init, is_jump, is_exit}
 use Rattle.rules.specs.Program.{Program, Own, Real, line_at, op_at, open_at, unit_of, first, end, after, pushes, pops, input_module, block_init, block_done, main_module}
-use Rattle.rules.specs.Unit.{UnitId, Module, Mechanism}
+use Rattle.rules.specs.declared.unit.UnitId.{UnitId}
+use Rattle.rules.specs.declared.unit.UnitId.TheVariants.{Module, Mechanism}
 use Rattle.rules.specs.Image.{Section, data_section, mechanism_section, module_section, line_section, least_count, most_count}
 use Rattle.rules.specs.Form.{records, Shaped, Reaches, Lands}
 use Rattle.rules.specs.Route.{Way, Entry, Arrives, at_entry, passed, to_end, none, line, Takes, BlockTakes, ScanTakes, change, depth}

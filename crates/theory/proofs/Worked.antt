@@ -2,7 +2,8 @@
 use Rattle.std.proofs.Common.{◌≡◌, ℕ, zero, suc, Bool, true, false, cond, ◌&&◌, eqb, ltb, length, Some, None, Option, sym, refl, ap, subst, inl, arith}
 use Rattle.std.proofs.lemmas.Bool.{ltb-true, eqb-true, and_parts}
 use Rattle.rules.specs.Program.{Program, op_at, input_module, main_module, init_module, unit_of, Own}
-use Rattle.rules.specs.Unit.{UnitId, Module, Mechanism}
+use Rattle.rules.specs.declared.unit.UnitId.{UnitId}
+use Rattle.rules.specs.declared.unit.UnitId.TheVariants.{Module, Mechanism}
 use Rattle.rules.specs.Run.{Memory, Place, at, over, Config, enter, effected, carried, Step, step, Runs, here, on, Passes}
 use Rattle.rules.specs.declared.session.Phase.{Phase}
 use Rattle.rules.specs.declared.session.Phase.TheVariants.{Idle}

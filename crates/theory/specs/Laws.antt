@@ -1,7 +1,8 @@
 -- The theorems of the rules. Assumes nothing.
 use Rattle.std.specs.Prelude.{◌≡◌, ℕ, ◌<◌, ◌≤◌, Bool, true, false, List, [], ◌∷◌, length}
 use Rattle.rules.specs.Program.{Program, Real, sequential}
-use Rattle.rules.specs.Unit.{UnitId, Module}
+use Rattle.rules.specs.declared.unit.UnitId.{UnitId}
+use Rattle.rules.specs.declared.unit.UnitId.TheVariants.{Module}
 use Rattle.rules.specs.Route.{ScanTakes}
 use Rattle.rules.specs.Verdict.{Formed, Accepted, Certified}
 use Rattle.rules.specs.Run.{Memory, Config, enter, Step, Runs, Passes}

@@ -1,7 +1,7 @@
 -- The depths that do not serve at an own line, decided case by case. Assumes nothing.
 use Rattle.std.proofs.Common.{◌≡◌, ℕ, ◌<◌, Bool, true, false, ◌||◌, ◌⊎◌, ℤ, pos, refl, inl, inr, arith}
 use Rattle.std.proofs.lemmas.Bool.{both_ways}
-use Rattle.rules.specs.Unit.{UnitId}
+use Rattle.rules.specs.declared.unit.UnitId.{UnitId}
 use Rattle.rules.specs.Op.{is_begin, is_end, is_exit}
 use Rattle.rules.specs.Program.{Program, Own, line_at, end, pushes}
 use Rattle.verdict.specs.Depths.{Misfits}

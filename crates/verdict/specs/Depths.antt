@@ -1,6 +1,6 @@
 -- Where a unit's routes come with depths that do not serve. Assumes nothing.
 use Rattle.std.specs.Prelude.{ℕ, ◌⊎◌, List, ℤ, ◌≢◌}
-use Rattle.rules.specs.Unit.{UnitId}
+use Rattle.rules.specs.declared.unit.UnitId.{UnitId}
 use Rattle.rules.specs.Program.{Program}
 use Rattle.rules.specs.Route.{Arrives, depth}
 use Rattle.rules.specs.Verdict.{OffBalance}

@@ -1,6 +1,7 @@
 -- The units of a program in a row, and the earlier of two places. Assumes nothing.
 use Rattle.std.specs.Prelude.{ℕ, ◌-◌, ◌<◌, min, cond, Some, None, Option, nat_lt}
-use Rattle.rules.specs.Unit.{UnitId, Module, Mechanism}
+use Rattle.rules.specs.declared.unit.UnitId.{UnitId}
+use Rattle.rules.specs.declared.unit.UnitId.TheVariants.{Module, Mechanism}
 use Rattle.rules.specs.Program.{Program, Real}
 use Rattle.verdict.specs.Depths.{IsBadIn}
 

@@ -7,18 +7,18 @@ ghost use Rattle.text.specs.Finds.{Finds};
 ghost use Rattle.verdict.specs.Units.{nth_unit, earliest, IsBadAmong};
 
 use crate::depths::first_bad_depth;
-use rules::unit::{Module, UnitId};
+use rules::unit::{Module, NamedUnit};
 use std::alloc::{AllocError, Global};
 use text::formed::Formed;
-use walk::units::unit_text;
+use walk::units::named_text;
 
 /// The unit of a number in the row of units: the seven modules, then the mechanisms.
-fn unit_at(i: usize) -> UnitId
+fn unit_at(i: usize) -> NamedUnit
     ensures { unit_named result ≡ nth_unit i }
 {
     match Module::try_from(i) {
-        Ok(module) => UnitId::Module(module),
-        Err(_) => UnitId::Mechanism(i - 7),
+        Ok(module) => NamedUnit::Module(module),
+        Err(_) => NamedUnit::Mechanism(i - 7),
     }
 }
 
@@ -39,7 +39,7 @@ fn with_unit(
     requires { Finds (IsBadAmong (meant formed.now.layout.program) i) first }
     ensures { IfOk result (λ o. Finds (IsBadAmong (meant formed.now.layout.program) (i + 1)) o) }
 {
-    let Some(unit) = unit_text(formed, unit_at(i)) else {
+    let Some(unit) = named_text(formed, unit_at(i)) else {
         return Ok(first);
     };
     let found = first_bad_depth(&unit, heap)?;

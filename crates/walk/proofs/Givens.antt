@@ -1,7 +1,8 @@
 -- What a unit's text carries: its program is formed, and the program has the unit. Assumes nothing.
 use Rattle.std.proofs.Common.{◌≡◌, ℕ, ◌-◌, ◌<◌, ◌≤◌, List, length, get_or, None, vec_items, vec_len, Option, sym, ap, ◌∙◌, arith}
 use Rattle.std.proofs.lemmas.List.{get_or_default, get_or_read}
-use Rattle.rules.specs.Unit.{UnitId, Module, Mechanism}
+use Rattle.rules.specs.declared.unit.UnitId.{UnitId}
+use Rattle.rules.specs.declared.unit.UnitId.TheVariants.{Module, Mechanism}
 use Rattle.rules.specs.Program.{Program, Real, main_module, first, end, begin_line, end_line}
 use Rattle.rules.specs.Image.{line_section}
 use Rattle.image.specs.Held.{meant}

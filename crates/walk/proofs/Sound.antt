@@ -3,7 +3,8 @@ use Rattle.std.proofs.Common.{◌≡◌, ℕ, zero, suc, ◌+◌, ◌-◌, ◌<�
 use Rattle.std.proofs.lemmas.Bool.{cases_eq, or_left}
 use Rattle.rules.specs.Op.{is_begin, is_end, is_jump, is_ex}
 use Rattle.rules.specs.Program.{Program, Own, Real, line_at, main_module, module_first, module_end, open_at, begin_line, end_line, first, end, after}
-use Rattle.rules.specs.Unit.{UnitId, Module, Mechanism}
+use Rattle.rules.specs.declared.unit.UnitId.{UnitId}
+use Rattle.rules.specs.declared.unit.UnitId.TheVariants.{Module, Mechanism}
 use Rattle.rules.specs.Form.{Shaped}
 use Rattle.rules.specs.Verdict.{Formed}
 use Rattle.rules.specs.Route.{Way, Arrives, at_entry, passed}

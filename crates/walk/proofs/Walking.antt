@@ -4,7 +4,7 @@ use lib.ListN.{length-replicate, get_or-replicate}
 use Rattle.std.proofs.lemmas.List.{get_or_past}
 use Rattle.std.proofs.lemmas.Bool.{cases_lt, cond-false}
 use Rattle.rules.specs.declared.line.Line.{Line}
-use Rattle.rules.specs.Unit.{UnitId}
+use Rattle.rules.specs.declared.unit.UnitId.{UnitId}
 use Rattle.rules.specs.Op.{is_begin, is_jump, is_exit, is_ex}
 use Rattle.rules.specs.Program.{Program, Own, line_at, first, end, end_line, after}
 use Rattle.rules.specs.Route.{Way, Entry, Arrives, at_entry, passed}

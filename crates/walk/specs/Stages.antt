@@ -1,7 +1,7 @@
 -- What a table holds while a walk is under way, and what is joined while the whole routes are gone through. Assumes nothing.
 use Rattle.std.specs.Prelude.{◌≡◌, ℕ, ◌+◌, ◌-◌, ◌<◌, ◌≤◌, true, List, [], ◌∷◌, length, Some, None, Option, slice_index_or}
 use Rattle.rules.specs.declared.line.Line.{Line}
-use Rattle.rules.specs.Unit.{UnitId}
+use Rattle.rules.specs.declared.unit.UnitId.{UnitId}
 use Rattle.rules.specs.Op.{is_exit}
 use Rattle.rules.specs.Program.{Program, Own, line_at, first, end}
 use Rattle.rules.specs.Route.{Arrives}

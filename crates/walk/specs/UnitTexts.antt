@@ -1,5 +1,5 @@
 -- The program and the unit that a unit's text stands for. Assumes nothing.
-use Rattle.rules.specs.Unit.{UnitId}
+use Rattle.rules.specs.declared.unit.UnitId.{UnitId}
 use Rattle.rules.specs.Named.{unit_named}
 use Rattle.rules.specs.Program.{Program}
 use Rattle.image.specs.Held.{meant}

@@ -1,6 +1,7 @@
 -- A unit that a program has, by its number among those of its kind, and where it stands. Assumes nothing.
 use Rattle.std.specs.Prelude.{◌≡◌, ℕ, ◌<◌, length}
-use Rattle.rules.specs.Unit.{UnitId, Module, Mechanism}
+use Rattle.rules.specs.declared.unit.UnitId.{UnitId}
+use Rattle.rules.specs.declared.unit.UnitId.TheVariants.{Module, Mechanism}
 use Rattle.rules.specs.Program.{Program, first, end}
 
 -- a unit's number among the modules or among the mechanisms

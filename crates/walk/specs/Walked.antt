@@ -1,7 +1,7 @@
 -- What a measure makes of the routes of a unit, and what the table of a walk holds. Assumes nothing.
 use Rattle.std.specs.Prelude.{◌≡◌, ℕ, ◌+◌, ◌-◌, ◌⊎◌, List, [], ◌∷◌, length, Some, None, Option, slice_index_or}
 use Rattle.rules.specs.declared.line.Line.{Line}
-use Rattle.rules.specs.Unit.{UnitId}
+use Rattle.rules.specs.declared.unit.UnitId.{UnitId}
 use Rattle.rules.specs.Program.{Program, Own, line_at, first, end}
 use Rattle.rules.specs.Route.{Arrives, Route}
 use Rattle.walk.specs.Joins.{JoinOf}

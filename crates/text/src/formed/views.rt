@@ -1,9 +1,7 @@
 // What is asked of a formed program: the lines of a unit, and the unit, the text flag and the line of a number.
 ghost use Rattle.std.specs.Prelude.{◌≡◌};
-ghost use Rattle.std.specs.Option.{option_map};
 ghost use Rattle.rules.specs.Program.{line_at, unit_of, flag_at};
-ghost use Rattle.rules.specs.Unit as unit;
-ghost use Rattle.rules.specs.Named.{unit_named};
+ghost use Rattle.rules.specs.declared.unit.UnitId.TheVariants as unit;
 ghost use Rattle.image.specs.Held.{meant};
 ghost use Rattle.text.specs.Views.{at_line, Spans};
 
@@ -35,22 +33,19 @@ impl Formed {
 
     /// The first line and the end of a unit, or none where the program has no such unit.
     pub fn span(&self, unit: UnitId) -> Option<Span>
-        ensures { Spans (meant self.now.layout.program) (unit_named unit) result }
+        ensures { Spans (meant self.now.layout.program) unit result }
     {
         match unit {
-            UnitId::Module(m) => Some(Span {
-                first: self.layout.start_of(m),
-                end: self.layout.end_of(m),
-            }),
+            UnitId::Module(number) => self.module_span(number),
             UnitId::Mechanism(k) => self.mechanism_span(k),
         }
     }
 
     /// The unit of a line, or none where the text has no such line.
     pub fn unit_of(&self, line: usize) -> Option<UnitId>
-        ensures { option_map unit_named result ≡ at_line (meant self.now.layout.program) line (unit_of (meant self.now.layout.program) line) }
+        ensures { result ≡ at_line (meant self.now.layout.program) line (unit_of (meant self.now.layout.program) line) }
     {
-        self.layout.marks.get(line).map(|mark| mark.unit)
+        self.layout.marks.get(line).map(|mark| mark.unit.into())
     }
 
     /// The text flag at a line, or none where the text has no such line.

@@ -8,15 +8,15 @@ ghost use Rattle.text.specs.Finds.{Finds};
 
 use crate::layout::Layout;
 use rules::op::Mnemonic;
-use rules::unit::{Module, UnitId};
+use rules::unit::{Module, NamedUnit};
 
 // Whether a unit is sequential: BLOCK_INIT, BLOCK_DONE or a mechanism.
-fn is_sequential(unit: UnitId) -> bool
+fn is_sequential(unit: NamedUnit) -> bool
     ensures { result ≡ sequential (unit_named unit) }
 {
     matches!(
         unit,
-        UnitId::Module(Module::BlockInit | Module::BlockDone) | UnitId::Mechanism(_)
+        NamedUnit::Module(Module::BlockInit | Module::BlockDone) | NamedUnit::Mechanism(_)
     )
 }
 
@@ -35,8 +35,8 @@ impl Layout {
     {
         self.at(place).is_some_and(|x| {
             x.line.is(Mnemonic::MechInit)
-                && x.unit != UnitId::Module(Module::Init)
-                && x.unit != UnitId::Module(Module::Clear)
+                && x.unit != NamedUnit::Module(Module::Init)
+                && x.unit != NamedUnit::Module(Module::Clear)
         })
     }
 

@@ -7,17 +7,17 @@ ghost use Rattle.text.specs.Finds.{Finds};
 
 use crate::layout::Layout;
 use crate::layout::placed::Placed;
-use rules::unit::UnitId;
+use rules::unit::NamedUnit;
 
 impl Layout {
     // Whether a place is a line of a unit or its end; a mechanism's end is out of reach.
-    fn lands(&self, place: usize, unit: UnitId) -> bool
+    fn lands(&self, place: usize, unit: NamedUnit) -> bool
         ensures { Decides result (Lands (meant self.now.program) place (unit_named unit)) }
     {
         let owned = self.owns(unit, place);
         match unit {
-            UnitId::Module(m) => owned || place == self.end_of(m),
-            UnitId::Mechanism(_) => owned,
+            NamedUnit::Module(m) => owned || place == self.end_of(m),
+            NamedUnit::Mechanism(_) => owned,
         }
     }
 

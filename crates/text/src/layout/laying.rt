@@ -11,7 +11,7 @@ use crate::layout::placed::Placed;
 use crate::marks::marking::marks_of;
 use crate::tables::{brackets, starts};
 use image::program::Program;
-use rules::unit::{Module, UnitId};
+use rules::unit::{Module, NamedUnit};
 use std::alloc::{AllocError, Global};
 
 impl Layout {
@@ -58,7 +58,7 @@ impl Layout {
     }
 
     // Whether a line is one of a unit's own.
-    pub(crate) fn owns(&self, unit: UnitId, place: usize) -> bool
+    pub(crate) fn owns(&self, unit: NamedUnit, place: usize) -> bool
         ensures { Decides result (Own (meant self.now.program) (unit_named unit) place) }
     {
         self.at(place).is_some_and(|x| x.unit == unit)

@@ -9,7 +9,7 @@ ghost use Rattle.text.specs.Mechanisms.{Unpaired, Misses};
 use crate::layout::Layout;
 use crate::layout::placed::Placed;
 use rules::op::Mnemonic;
-use rules::unit::{Module, UnitId};
+use rules::unit::{Module, NamedUnit};
 
 impl Layout {
     // Whether a line begins a mechanism outside MAIN, inside another or for the second time, or ends one outside MAIN, unopened or under
@@ -28,9 +28,9 @@ impl Layout {
         };
         let k = usize::from(pairing.operand);
         if pairing.is(Mnemonic::MechBegin) {
-            unit != UnitId::Module(Module::Main) || self.brackets[k].begin < place
+            unit != NamedUnit::Module(Module::Main) || self.brackets[k].begin < place
         } else {
-            pairing.is(Mnemonic::MechEnd) && unit != UnitId::Mechanism(k)
+            pairing.is(Mnemonic::MechEnd) && unit != NamedUnit::Mechanism(k)
         }
     }
 
@@ -52,7 +52,7 @@ impl Layout {
         }
         let last = self.program.lines[end - 1];
         last.is(Mnemonic::MechBegin)
-            || !last.is(Mnemonic::MechEnd) && !self.owns(UnitId::Module(Module::Main), end - 1)
+            || !last.is(Mnemonic::MechEnd) && !self.owns(NamedUnit::Module(Module::Main), end - 1)
     }
 
     // Whether some mechanism is begun nowhere.

@@ -10,7 +10,7 @@ use crate::marks::Mark;
 use image::program::Program;
 use rules::line::Line;
 use rules::op::Mnemonic;
-use rules::unit::{Module, UnitId};
+use rules::unit::{Module, NamedUnit};
 use std::alloc::{AllocError, Global};
 
 // The mechanism that is open after a line.
@@ -46,10 +46,10 @@ fn flag_after(flag: bool, line: Line) -> bool
 }
 
 // The mechanism that is open, or else MAIN.
-fn main_or(opened: Option<usize>) -> UnitId
+fn main_or(opened: Option<usize>) -> NamedUnit
     ensures { unit_named result ≡ main_or opened }
 {
-    opened.map_or(UnitId::Module(Module::Main), UnitId::Mechanism)
+    opened.map_or(NamedUnit::Module(Module::Main), NamedUnit::Mechanism)
 }
 
 // The marks of all lines, from the first line of each module.
@@ -62,7 +62,7 @@ pub(crate) fn marks_of(
     requires are { StartsAre (meant program.now) starts.now }
     ensures { IfOk result (λ m. Marked (meant program.now) m.items (vec_len program.now.lines)) }
 {
-    let mut marks = Vec::new(heap);
+    let mut marks = Vec::with_capacity(heap, program.lines.len())?;
     for module in &Module::ALL {
         let n = usize::from(*module);
         mark_module(&mut marks, program, *module, starts[n], starts[n + 1])?;
@@ -89,7 +89,7 @@ fn mark_module(
         let unit = if module == Module::Main {
             main_or(opened)
         } else {
-            UnitId::Module(module)
+            NamedUnit::Module(module)
         };
         marks.push(Mark { unit, flag })?;
         opened = open_after(opened, *line);

@@ -1,5 +1,5 @@
 use Rattle.std.proofs.Common.{ℕ, List, get_or, sym, subst}
-use Rattle.rules.specs.Unit.{Mechanism}
+use Rattle.rules.specs.declared.unit.UnitId.TheVariants.{Mechanism}
 use Rattle.rules.specs.Route.{Takes, Greatest}
 use Rattle.image.specs.Held.{meant}
 use Rattle.certificate.proofs.Scanning.{parts_greatest}

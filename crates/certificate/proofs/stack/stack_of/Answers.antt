@@ -1,5 +1,5 @@
 use Rattle.std.proofs.Common.{ℕ, subst, arith, below_more}
-use Rattle.rules.specs.Unit.{Module, Mechanism}
+use Rattle.rules.specs.declared.unit.UnitId.TheVariants.{Module, Mechanism}
 use Rattle.rules.specs.Image.{module_section}
 use Rattle.rules.proofs.Units.{module_number-nth}
 use Rattle.image.specs.Held.{meant}

@@ -1,5 +1,5 @@
 use Rattle.std.proofs.Common.{ℕ, ◌<◌, length, pos}
-use Rattle.rules.specs.Unit.{Module, Mechanism}
+use Rattle.rules.specs.declared.unit.UnitId.TheVariants.{Module, Mechanism}
 use Rattle.rules.specs.Verdict.{DepthOf}
 use Rattle.image.specs.Held.{meant}
 use Rattle.certificate.specs.Deepest.{Within}

@@ -5,9 +5,9 @@ use Rattle.image.specs.declared.sections.Kind.TheVariants.{Data, Mechanisms, Mod
 use Rattle.image.specs.Refusals.{RefusedBy}
 use Rattle.image.specs.Reading.{Found}
 use Rattle.image.proofs.Places.{Clear, clear_none, refused_left_over, refused_total, sound}
-use Rattle.image.proofs.Verdict.{missing_refused, found_at, passed, is_section, part_end, bits_held, outside_refused, lengths_are, starts_are}
+use Rattle.image.proofs.Verdict.{missing_refused, found_at, passed, is_section, part_long, part_end, bits_held, outside_refused, lengths_are, starts_are}
 use Rattle.image.proofs.reading.read_image.Goals as goal
-use Rattle.image.proofs.reading.read_image.Goals.{In_ok-data, In_ok-mechanisms, In_ok-check_activations, In_ok-modules, In_ok-lines, In_ok-finish, After-unit_starts-total}
+use Rattle.image.proofs.reading.read_image.Goals.{In_ok-data, In_ok-mechanisms, After-check_activations, In_ok-check_activations, In_ok-modules, In_ok-lines, In_ok-finish, After-unit_starts-total, After-part-4}
 
 pub returns-in_err-data : goal.returns-in_err-data
 returns-in_err-data c =
@@ -21,10 +21,6 @@ module _ (c : In_ok-data) where
 
   clear_1 : Clear c.args.image.now (count_place c.args.image.now mechanism_section)
   clear_1 = passed c.args.image.now Data _ c.in_ok-data.ensures.section.1 (clear_none c.args.image.now) (λ e. cc)
-
-  -- the number of data bits that the activation bits are held against
-  limit : 8 * length c.in_ok-data.data.bytes.now ≡ 8 * count c.args.image.now data_section
-  limit = let l = c.in_ok-data.ensures.section.1.part.long in omega arith
 
 pub returns-in_err-mechanisms : goal.returns-in_err-mechanisms
 returns-in_err-mechanisms c =
@@ -42,17 +38,21 @@ module _ (c : In_ok-mechanisms) where
   same_2 : c.section-2.new.self.image.now ≡ c.args.image.now
   same_2 = c.in_ok-mechanisms.ensures.image ∙ c.in_ok-data.ensures.image
 
+-- the number of data bits that the activation bits are held against
+limit : (c : After-check_activations) → 8 * length c.part.result.bytes.now ≡ 8 * count c.args.image.now data_section
+limit c = let l = part_long c.args.image.now Data _ c.in_ok-data.ensures.section.1 _ c.part.ensures in omega arith
+
 pub returns-in_err-check_activations : goal.returns-in_err-check_activations
 returns-in_err-check_activations c =
     let at = goal.at.returns-in_err-check_activations c in
-    let refused = outside_refused c.args.image.now _ (mechanisms_found at.In_ok-mechanisms) _ (limit at.In_ok-data) _ (clear_1 at.In_ok-data) c.in_err-check_activations.ensures in
+    let refused = outside_refused c.args.image.now _ (mechanisms_found at.In_ok-mechanisms) _ c.part-2.ensures _ (limit at.After-check_activations) _ (clear_1 at.In_ok-data) c.in_err-check_activations.ensures in
     search rules
 
 clear_2 : (c : In_ok-check_activations) → Clear c.args.image.now (count_place c.args.image.now module_section)
 clear_2 c =
     let at = goal.at.In_ok-check_activations c in
     let found = mechanisms_found at.In_ok-mechanisms in
-    passed c.args.image.now Mechanisms _ found (clear_1 at.In_ok-data) (λ e. bits_held c.args.image.now _ found _ (limit at.In_ok-data) c.in_ok-check_activations.ensures)
+    passed c.args.image.now Mechanisms _ found (clear_1 at.In_ok-data) (λ e. bits_held c.args.image.now _ found _ c.part-2.ensures _ (limit at.After-check_activations) c.in_ok-check_activations.ensures)
 
 pub returns-in_err-modules : goal.returns-in_err-modules
 returns-in_err-modules c =
@@ -113,20 +113,21 @@ module _ (c : After-unit_starts-total) where
       let inside = (lines_found d).held in
       omega arith
 
-  -- the number of lines and the sum of the lengths are those of its program
-  line_count : length c.in_ok-lines.lines.bytes.now / 4 ≡ count c.args.image.now line_section
-  line_count = let l = (lines_found (goal.at.After-unit_starts-total c).In_ok-lines).part.long in omega arith
-
+  -- the sum of the lengths is that of its program
   sum : c.unit_starts-total.result.1 ≡ total (program_of c.args.image.now).lengths
-  sum = c.unit_starts-total.ensures.lines ∙ ap total (lengths_are c.args.image.now _ (modules_found (goal.at.After-unit_starts-total c).In_ok-modules))
+  sum = c.unit_starts-total.ensures.lines ∙ ap total (lengths_are c.args.image.now _ (modules_found (goal.at.After-unit_starts-total c).In_ok-modules) _ c.part-3.ensures)
 
-pub returns-then-total-lines : goal.returns-then-total-lines
-returns-then-total-lines c =
-    let at = goal.at.returns-then-total-lines c in
+-- and so is the number of lines
+line_count : (c : After-part-4) → length c.part-4.result.bytes.now / 4 ≡ count c.args.image.now line_section
+line_count c = let l = part_long c.args.image.now Lines _ (lines_found (goal.at.After-part-4 c).In_ok-lines) _ c.part-4.ensures in omega arith
+
+pub returns-then-total-part : goal.returns-then-total-part
+returns-then-total-part c =
+    let at = goal.at.returns-then-total-part c in
     let u = at.After-unit_starts-total in
     let image = c.args.image.now in
     subst (ImageRefused image 5) (sym (lines_at at.In_ok-modules))
-    (refused_total image (clear_4 at.In_ok-lines) (ended u) (λ e. c.if-total-lines.true (sum u ∙ e ∙ sym (line_count u))))
+    (refused_total image (clear_4 at.In_ok-lines) (ended u) (λ e. c.if-total-part.true (sum u ∙ e ∙ sym (line_count at.After-part-4))))
 
 pub invariant_of-result : goal.invariant_of-result
 invariant_of-result c =
@@ -135,10 +136,10 @@ invariant_of-result c =
     let image = c.args.image.now in
     let m = modules_found at.In_ok-modules in
     record {
-      sound = sound image (clear_4 at.In_ok-lines) (ended u) (sym (sum u) ∙ c.if-total-lines.false ∙ line_count u);
+      sound = sound image (clear_4 at.In_ok-lines) (ended u) (sym (sum u) ∙ c.if-total-part.false ∙ line_count at.After-part-4);
       data_is = is_section image Data _ c.in_ok-data.ensures.section.1;
       mechanisms_are = is_section image Mechanisms _ (mechanisms_found at.In_ok-mechanisms);
       modules_are = is_section image Modules _ m;
       lines_are = is_section image Lines _ (lines_found at.In_ok-lines);
-      starts_are = starts_are image _ m _ c.unit_starts-total.ensures.starts;
+      starts_are = starts_are image _ m _ c.part-3.ensures _ c.unit_starts-total.ensures.starts;
     }

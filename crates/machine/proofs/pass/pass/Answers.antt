@@ -1,7 +1,7 @@
 use Rattle.std.proofs.Common.{◌+◌, ◌≤◌, length, refl, ap, ◌∙◌, arith, rules}
 use Rattle.rules.specs.Named.{module_number}
 use Rattle.rules.proofs.Units.{module_number-below}
-use Rattle.rules.specs.Unit.{Module}
+use Rattle.rules.specs.declared.unit.UnitId.TheVariants.{Module}
 use Rattle.rules.specs.Image.{line_section}
 use Rattle.rules.specs.Run.{enter, Runs, here}
 use Rattle.machine.specs.Views.{program_of, memory_of}

@@ -1,6 +1,6 @@
 use Rattle.std.proofs.Common.{◌≡◌, ◌-◌, length}
 use Rattle.rules.specs.Named.{module_number}
-use Rattle.rules.specs.Unit.{Module}
+use Rattle.rules.specs.declared.unit.UnitId.TheVariants.{Module}
 use Rattle.rules.specs.Run.{enter, Runs}
 use Rattle.machine.specs.Views.{program_of, memory_of}
 use Rattle.machine.specs.Standing.{program_in, config_of}

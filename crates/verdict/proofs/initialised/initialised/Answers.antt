@@ -1,6 +1,7 @@
 use Rattle.std.proofs.Common.{◌≡◌, ℕ, Bool, sym, ap, subst, refl}
 use Rattle.std.proofs.lemmas.Option.{MatchOption-at_some}
-use Rattle.rules.specs.Unit.{UnitId, Module}
+use Rattle.rules.specs.declared.unit.UnitId.{UnitId}
+use Rattle.rules.specs.declared.unit.UnitId.TheVariants.{Module}
 use Rattle.rules.specs.Program.{Program}
 use Rattle.rules.specs.Verdict.{MissesInit, misses}
 use Rattle.rules.specs.Named.{module_number, unit_named}
@@ -24,5 +25,5 @@ pub returns-else-branch : goal.returns-else-branch
 returns-else-branch c =
     let p = meant c.args.formed.now.layout.program in
     let m = module_number c.args.«module» in
-    let t = here c.unwrap-unit.result c.args.formed.now m c.in_ok-initialises_all.field-0 (let u = MatchOption-at_some _ _ _ c.unwrap-unit.ensures c.unit_text.ensures in (u.0, ap unit_named u.1)) c.in_ok-initialises_all.ensures in
+    let t = here c.unwrap-unit.result c.args.formed.now m c.in_ok-initialises_all.field-0 (let u = MatchOption-at_some _ _ _ c.unwrap-unit.ensures c.named_text.ensures in (u.0, ap unit_named u.1)) c.in_ok-initialises_all.ensures in
     subst (TellsMissed p m) (sym c.into-else-branch.ensures) (ap Uninitialised c.into.ensures, missed p m (t.on_no c.if-branch.false))

@@ -1,4 +1,4 @@
-use Rattle.std.proofs.Common.{◌≡◌, ℕ, ◌-◌, ◌<◌, length, get_or, vec_items, Option, sym, ◌∙◌, arith, rules}
+use Rattle.std.proofs.Common.{◌≡◌, ℕ, ◌-◌, ◌<◌, length, get_or, vec_items, Some, Option, sym, ap, ◌∙◌, arith, rules}
 use Rattle.std.proofs.lemmas.Iterator.{first_from_Range, serves_from_Range}
 use Rattle.walk.specs.UnitTexts.{program_of, id_of}
 use Rattle.walk.proofs.Givens.{unit_sound, read_at}
@@ -30,6 +30,11 @@ returns-in_err-v c =
     let s = c.args.self.now in
     let u = s.unit in
     absurd (some_entry (program_of u) (id_of u) (unit_sound u) s.steps.bounds.now (vec_items s.table) s.walked c.args.m c.requires (entry_is s c.args.m _ c.requires c.index.ensures ∙ c.in_err-v.was))
+
+pub returns-then-v-eq0 : goal.returns-then-v-eq0
+returns-then-v-eq0 c =
+    let s = c.args.self.now in
+    record { place = c.requires; read = entry_is s c.args.m _ c.requires c.index.ensures ∙ c.in_ok-v.was ∙ ap Some c.if-v-eq0.true }
 
 pub find-requires-clause-callable : goal.find-requires-clause-callable
 find-requires-clause-callable c =

@@ -6,16 +6,16 @@ use Rattle.image.proofs.sections.Image.program.Goals.{In_ok-lines}
 
 module _ (c : In_ok-lines) where
   initial : vec_items c.in_ok-initial.initial ≡ (program_of c.args.self.now.bytes.now).initial
-  initial = c.in_ok-initial.ensures.0 ∙ initial_is _ c.args.self.now.sound _ c.args.self.now.data_is
+  initial = c.in_ok-initial.ensures.0 ∙ initial_is _ c.args.self.now.sound _ _ c.part.ensures c.args.self.now.data_is
 
   activation : vec_items c.in_ok-activation.activation ≡ (program_of c.args.self.now.bytes.now).activation
-  activation = c.in_ok-activation.ensures ∙ activation_is _ c.args.self.now.sound _ c.args.self.now.mechanisms_are
+  activation = c.in_ok-activation.ensures ∙ activation_is _ c.args.self.now.sound _ _ c.part-2.ensures c.args.self.now.mechanisms_are
 
   lengths : vec_items c.in_ok-lengths.lengths ≡ (program_of c.args.self.now.bytes.now).lengths
-  lengths = c.in_ok-lengths.ensures ∙ lengths_are _ c.args.self.now.sound _ c.args.self.now.modules_are
+  lengths = c.in_ok-lengths.ensures ∙ lengths_are _ c.args.self.now.sound _ _ c.part-3.ensures c.args.self.now.modules_are
 
   lines : vec_items c.in_ok-lines.lines ≡ (program_of c.args.self.now.bytes.now).lines
-  lines = c.in_ok-lines.ensures ∙ lines_are _ c.args.self.now.sound _ c.args.self.now.lines_are
+  lines = c.in_ok-lines.ensures ∙ lines_are _ c.args.self.now.sound _ _ c.part-4.ensures c.args.self.now.lines_are
 
 pub invariant_of-result : goal.invariant_of-result
 invariant_of-result c =
