@@ -89,6 +89,7 @@ impl Search<'_> {
         requires { JoinOf max (Whole 0 (steps_after self.now.steps.bounds.now) (program_of self.now.unit) (id_of self.now.unit)) n }
         ensures { IfOk result (λ v. Traced (program_of self.now.unit) (id_of self.now.unit) self.now.steps.bounds.now self.now.table.items n v.items) }
     {
+        // kept: `or_else` was tried twice; the proof found nothing of what its closure answers
         let mut next = match self.last_stop(n) {
             Some(l) => Some(l),
             None => self.previous(self.unit.end),

@@ -1,7 +1,7 @@
 // The stack of bits in the registers.
 ghost use Rattle.std.specs.Prelude.{◌≤◌};
 
-/// A stack of at most eight bits: the first `depth` cells, the newest last. A clause sees it through the list of its bits, the newest first.
+/// A stack of at most eight bits: the first `depth` cells, the newest last. A clause speaks of the list of its bits, the newest first.
 #[derive(Clone, Copy)]
 pub struct Stack {
     cells: [bool; 8],

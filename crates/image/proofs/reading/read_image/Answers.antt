@@ -7,7 +7,7 @@ use Rattle.image.specs.Reading.{Found}
 use Rattle.image.proofs.Places.{Clear, clear_none, refused_left_over, refused_total, sound}
 use Rattle.image.proofs.Verdict.{missing_refused, found_at, passed, is_section, part_long, part_end, bits_held, outside_refused, lengths_are, starts_are}
 use Rattle.image.proofs.reading.read_image.Goals as goal
-use Rattle.image.proofs.reading.read_image.Goals.{In_ok-data, In_ok-mechanisms, After-check_activations, In_ok-check_activations, In_ok-modules, In_ok-lines, In_ok-finish, After-unit_starts-total, After-part-4}
+use Rattle.image.proofs.reading.read_image.Goals.{In_ok-data, In_ok-mechanisms, After-check_activations, In_ok-check_activations, In_ok-modules, In_ok-lines, After-unit_starts-total, After-part-4}
 
 pub returns-in_err-data : goal.returns-in_err-data
 returns-in_err-data c =
